@@ -81,6 +81,11 @@ class Crates:
         return found
 
 
+def nice_of(part):
+    """Returns how far a check gives way, as `nice` has it, whose chain upward is such a part of the longest one."""
+    return 0 if part >= NEARLY else round(BEHIND * (1 - part))
+
+
 def rooms():
     """Returns for how many checks there is memory."""
     with open("/proc/meminfo", encoding="utf-8") as it:
@@ -91,6 +96,11 @@ def rooms():
 def processors():
     """Returns how many checks may run side by side: one a processor, and as many as there is memory for."""
     return min(len(os.sched_getaffinity(0)), rooms())
+
+
+def most_checks():
+    """Returns how many checks run side by side where they give way to each other: more than one a processor, and as many as there is memory for."""
+    return min(processors() + MORE, rooms())
 
 
 @contextlib.contextmanager
@@ -191,7 +201,7 @@ class Turns:
     def __init__(self, crates, names):
         self.crates, self.left = crates, list(names)
         self.rooms = rooms()
-        self.most, self.checks = processors(), min(processors() + MORE, self.rooms)
+        self.most, self.checks = processors(), most_checks()
         self.behind = crates.behind(set(names))
         self.done, self.jobs = set(), {}
 
@@ -216,7 +226,7 @@ class Turns:
         self.left.remove(name)
         wanted = max(fewest, min(spare, MOST_JOBS if is_long else LONG_JOBS))
         self.jobs[name] = wanted if self.crates.weight(name) >= LARGE else 1
-        return name, self.jobs[name], 0 if is_long else round(BEHIND * (1 - part))
+        return name, self.jobs[name], nice_of(part)
 
     def end(self, name, is_proved):
         """Notes that a crate is done. Where it is not proved, those above it are left out."""

@@ -10,7 +10,7 @@ ghost use Rattle.cilk_draw.specs.DrawFaults.{IsDrawFaultOf, IsOwn};
 use crate::excerpt::Excerpt;
 use crate::fault::DrawFault;
 use crate::painter::Painter;
-use cilk_draw_pictures::Picture;
+use crate::picture::Picture;
 use cilk_log_replay::{Choice, Loaded, Log, ReplayFault, play, play_all};
 use std::alloc::Global;
 

@@ -1,10 +1,14 @@
 //! A machine that makes the choices of a schedule again, with what is drawn of them.
 
 use crate::caption::{caption_of, line_of};
+use crate::column::Column;
+use crate::footer::Footer;
+use crate::gathering::{Kind, note_lines};
 use crate::glance::Glance;
 use crate::looking::glance_at;
+use crate::picture::Picture;
+use crate::ribbon::Ribbon;
 use crate::standing::{footer_of, no_room, view_text};
-use cilk_draw_pictures::{Column, Footer, Kind, Picture, Ribbon, note_lines};
 use cilk_log_replay::{Act, Choice, Did, Machine, Memory, What};
 use std::alloc::Global;
 

@@ -1,7 +1,7 @@
 //! How a program stands at the end of a picture: its outcome, a line for each worker and each instance, and its text.
 
+use crate::footer::Footer;
 use crate::tree_lines::tree_of;
-use cilk_draw_pictures::Footer;
 use cilk_log_replay::{Act, Choice, End, Machine, Memory, Refusal, ViewFault, What, put_trapped};
 use std::alloc::{AllocError, Global};
 

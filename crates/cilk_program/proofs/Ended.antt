@@ -9,7 +9,7 @@ use Rattle.cilk_program_runs.specs.commands.declared.failure.Failure.{Failure}
 use Rattle.cilk_program_runs.specs.commands.declared.failure.Failure.TheVariants as failure
 use Rattle.cilk_program_runs.specs.commands.declared.status.Status.{Status}
 use Rattle.cilk_program_runs.specs.commands.declared.status.Status.TheVariants as ended
-use Rattle.cilk_program_runs.specs.Picturing.{DeclinesToDraw}
+use Rattle.cilk_program.specs.Picturing.{DeclinesToDraw}
 use Rattle.cilk_program_runs.specs.Taped.{Declines}
 use Rattle.cilk_program_runs.specs.tapes.declared.failure.RecordFailure.TheVariants as why
 use Rattle.cilk_words.specs.CommandLine.{Asked, Wanted, printed, checked, run, explored, replayed, measured, raced, pictured, debugged, served, asked}

@@ -1,2 +1,3 @@
 mod Ended
 mod Served
+mod Pictured

@@ -12,7 +12,7 @@ use Rattle.cilk_program_runs.specs.Exploring.{GivesUpExploring}
 use Rattle.cilk_program_runs.specs.GivingUp.{GivesUpRun, GivesUp as GivesUpOfLog}
 use Rattle.cilk_program.specs.Measuring.{IsMeasured}
 use Rattle.cilk_program_runs.specs.OnTapes.{IsOfRun, TellsAsAsked, TellsFrontAsAsked}
-use Rattle.cilk_program_runs.specs.Picturing.{DeclinesToDraw, Depicts, DepictsFront}
+use Rattle.cilk_program.specs.Picturing.{DeclinesToDraw, Depicts, DepictsFront}
 use Rattle.cilk_program.specs.Racing.{AreRaces}
 use Rattle.cilk_program.specs.Serving.{GivesUpServing}
 use Rattle.cilk_program_runs.specs.Replaying.{Replays, ReplaysFront}

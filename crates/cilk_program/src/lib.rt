@@ -1,9 +1,12 @@
-//! What the program does with its words, with texts by name and with two streams, and the subcommands that tell something of all choices of a schedule.
+//! What the program does with its words, with texts by name and with two streams, and the subcommands that tell something of all choices of a schedule, or
+//! show them.
 //! `cilk` only says which texts and streams these are.
 #![tactic(auto)]
 
 mod dap;
 mod dispatch;
+mod draw;
+mod draw_task;
 mod exit;
 mod marking;
 mod measure;

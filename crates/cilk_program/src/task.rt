@@ -7,13 +7,13 @@ ghost use Rattle.cilk_program_runs.specs.Saying.{ExplainsTrap, tells_trap};
 ghost use Rattle.cilk_program.specs.Task.{Does, Fails, Leaves, is_session};
 
 use crate::dap::dap_text;
-use crate::marking::RaceMarks;
+use crate::draw::draw_named;
+use crate::draw_task::DrawTask;
 use crate::measure::Numbers;
 use crate::races::Races;
 use cilk_program_runs::{
-    DrawTask, ExploreTask, FileNames, LogTask, RunTask, Status, Streams, TapeTask, Texts,
-    check_text, debug_named, draw_named, explore_named, print_text, replay_named, run_as_asked,
-    tell_as_asked,
+    ExploreTask, FileNames, LogTask, RunTask, Status, Streams, TapeTask, Texts, check_text,
+    debug_named, explore_named, print_text, replay_named, run_as_asked, tell_as_asked,
 };
 use cilk_words::{Request, Task};
 use std::alloc::Global;
@@ -130,7 +130,7 @@ pub fn perform<H: Threads + Wait + Sync, T: Texts, R: Read, O: Write, E: Write>(
                 to,
                 in_lines,
             };
-            draw_named::<RaceMarks, T, R, O, E>(alloc, &task, texts, reader, streams)
+            draw_named(alloc, &task, texts, reader, streams)
         }
         Task::Debug { log } => {
             let names = FileNames { program: name, log };

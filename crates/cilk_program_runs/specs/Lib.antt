@@ -8,7 +8,6 @@ pub mod Exploring
 pub mod Unexplored
 pub use Rattle.cilk_program_tapes.specs as tapes
 pub use Rattle.cilk_program_tapes.specs.GivingUp
-pub use Rattle.cilk_program_tapes.specs.Picturing
 pub use Rattle.cilk_program_tapes.specs.Replaying
 pub use Rattle.cilk_program_tapes.specs.Saying
 pub use Rattle.cilk_program_tapes.specs.Taped

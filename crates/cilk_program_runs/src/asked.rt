@@ -5,7 +5,6 @@ ghost use Rattle.cilk_program_tapes.specs.commands.Status.{is_answer};
 ghost use Rattle.cilk_program_runs.specs.Debugging.{Debugs, DebugsFront, DebugsPart};
 ghost use Rattle.cilk_program_runs.specs.Exploring.{GivesUpExploring};
 ghost use Rattle.cilk_program_tapes.specs.GivingUp.{GivesUp, GivesUpRun};
-ghost use Rattle.cilk_program_tapes.specs.Picturing.{DeclinesToDraw, Depicts, DepictsFront};
 ghost use Rattle.cilk_program_tapes.specs.Replaying.{Replays, ReplaysFront};
 ghost use Rattle.cilk_program_tapes.specs.Saying.{ExplainsTrap, tells_trap};
 ghost use Rattle.cilk_program_tapes.specs.Taped.{Declines};
@@ -23,8 +22,8 @@ use crate::tape_answer::{TapeAnswering, tape_log_text};
 use crate::tape_task::TapeTask;
 use crate::texts::Texts;
 use cilk_program_tapes::{
-    Answering, DrawTask, Failure, FileNames, LogTask, Marking, RecordFailure, Status, Streams,
-    answer_text, draw_text, replay_text,
+    Answering, Failure, FileNames, LogTask, RecordFailure, Status, Streams, answer_text,
+    replay_text,
 };
 use std::alloc::Global;
 use std::io::{Read, Write};
@@ -140,30 +139,6 @@ pub fn replay_named<T: Texts, R: Read, O: Write, E: Write>(
     ensures kept { is_answer result ≡ false → result ≢ Status.CannotWrite → streams.new.output ≡ streams.old.output }
 {
     replay_text(alloc, task, reader, texts.open(task.names.log), streams)
-}
-
-/// Depicts a log, of the program that the reader holds.
-pub fn draw_named<M: Marking, T: Texts, R: Read, O: Write, E: Write>(
-    alloc: Global,
-    task: &DrawTask<'_>,
-    texts: &T,
-    reader: &mut R,
-    streams: &mut Streams<O, E>,
-) -> Status
-    ensures done { is_answer result ≡ true → Depicts (R.remaining reader.old)
-        (T.held texts.now task.now.log.names.log.now) (O.contents streams.old.output) (O.contents streams.new.output) }
-    ensures only { is_answer result ≡ true → result ≡ Status.Done }
-    ensures told { is_answer result ≡ false
-        → GivesUp DeclinesToDraw task.now.log.explain task.now.log.names.program.now task.now.log.names.log.now result
-        (R.remaining reader.old) (T.held texts.now task.now.log.names.log.now) (E.contents streams.old.errors) (E.contents streams.new.errors) }
-    ensures begun { result ≡ Status.CannotWrite → DepictsFront (R.remaining reader.old)
-        (T.held texts.now task.now.log.names.log.now) (O.contents streams.old.output) (O.contents streams.new.output) }
-    ensures usage { result ≢ Status.Usage }
-    ensures quiet { is_answer result ≡ true → streams.new.errors ≡ streams.old.errors }
-    ensures kept { is_answer result ≡ false → result ≢ Status.CannotWrite → streams.new.output ≡ streams.old.output }
-{
-    let log = texts.open(task.log.names.log);
-    draw_text::<M, R, T::Reader, O, E>(alloc, task, reader, log, streams)
 }
 
 /// Debugs a log, of the program that the reader holds.

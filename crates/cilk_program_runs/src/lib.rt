@@ -1,5 +1,6 @@
 //! The subcommands that run or explore a program, answer commands on a recorded schedule, or tell something of one run, with texts by name and two streams;
-//! and what is asked of each by the names of its texts. What is told of all choices of a schedule, by `measure` and `races`, stands above.
+//! and what is asked of each by the names of its texts. What is told of all choices of a schedule, by `measure` and `races`, and
+//! its picture, stand above.
 #![tactic(auto)]
 
 mod asked;
@@ -20,13 +21,10 @@ mod tape_task;
 mod texts;
 mod unexplored;
 
-pub use asked::{
-    debug_named, draw_named, explore_named, replay_named, run_as_asked, tell_as_asked,
-};
+pub use asked::{debug_named, explore_named, replay_named, run_as_asked, tell_as_asked};
 pub use cilk_program_tapes::{
-    Answered, Answering, DrawTask, Excerpt, Failure, FileNames, Loaded, LogTask, Marking, Picture,
-    RecordFailure, Status, Streams, Taped, check_text, draw_text, print_text, read_text,
-    replay_text, tape_in,
+    Answered, Answering, Failure, FileNames, Loaded, LogTask, Note, RecordFailure, Status, Streams,
+    Taped, check_text, print_text, read_text, replay_text, tape_in, write_answer,
 };
 pub use debug::debug_text;
 pub use explore::explore_text;

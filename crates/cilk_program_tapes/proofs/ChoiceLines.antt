@@ -3,13 +3,13 @@ use Rattle.std.proofs.Common.{◌≡◌, ◌≤◌, ℕ, ◌+◌, ◌-◌, Bool,
 use Rattle.std.proofs.Common.{length-append, option_map, zero, suc, ◌++◌}
 use Rattle.std.proofs.lemmas.Option.{slice_get-map, slice_get_within}
 use Rattle.std.proofs.lemmas.List.{length-map, length-take-le}
-use Rattle.cilk_draw.specs.replay.machine.model.Choice.{Choice}
-use Rattle.cilk_draw.specs.replay.log.choices.declared.choice.Choice as code
-use Rattle.cilk_draw.specs.replay.log.choices.Words.{choice_of}
-use Rattle.cilk_draw.specs.replay.log.Choices.{choice_text}
-use Rattle.cilk_draw.specs.replay.log.Stretches.{Stretch, once, are_joined, stretch_text, stretches_of, with_first}
-use Rattle.cilk_draw.specs.replay.log.Text.{Log, end_text, lines_by}
-use Rattle.cilk_draw.specs.replay.log.choices.declared.refusal.Refusal.{Refusal}
+use Rattle.cilk_log_replay.specs.machine.model.Choice.{Choice}
+use Rattle.cilk_log_replay.specs.log.choices.declared.choice.Choice as code
+use Rattle.cilk_log_replay.specs.log.choices.Words.{choice_of}
+use Rattle.cilk_log_replay.specs.log.Choices.{choice_text}
+use Rattle.cilk_log_replay.specs.log.Stretches.{Stretch, once, are_joined, stretch_text, stretches_of, with_first}
+use Rattle.cilk_log_replay.specs.log.Text.{Log, end_text, lines_by}
+use Rattle.cilk_log_replay.specs.log.choices.declared.refusal.Refusal.{Refusal}
 use Rattle.cilk_program_tapes.specs.ChoiceLines.{choice_words, line_of_choice, new_lines, nth_choice}
 
 -- how many lines of version 2 tell choices behind another one, if one stands before them

@@ -1,9 +1,9 @@
 -- The line of a choice tells it.
 use Rattle.std.proofs.Common.{◌≡◌, ◌≤◌, ◌<◌, ℕ, zero, suc, ◌+◌, Bool, true, false, cond, List, [], ◌∷◌, ◌++◌, length, map, take, Option, Some, None}
 use Rattle.std.proofs.Common.{refl, sym, ap, ◌∙◌, subst, arith}
-use Rattle.cilk_draw.specs.replay.machine.model.Choice.{Choice}
-use Rattle.cilk_draw.specs.replay.log.Stretches.{Stretch, once, are_joined, count_of, stretches_of, with_first}
-use Rattle.cilk_draw.specs.replay.log.Text.{Log}
+use Rattle.cilk_log_replay.specs.machine.model.Choice.{Choice}
+use Rattle.cilk_log_replay.specs.log.Stretches.{Stretch, once, are_joined, count_of, stretches_of, with_first}
+use Rattle.cilk_log_replay.specs.log.Text.{Log}
 use Rattle.cilk_program_tapes.specs.ChoiceLines.{TellsChoice, line_of_choice}
 use Rattle.cilk_program_tapes.proofs.ChoiceLines.{front_counted, in_first_version, in_second_version}
 

@@ -4,13 +4,13 @@ use Rattle.std.specs.Prelude.{Result, Ok, Err, IfOk}
 use Rattle.std.proofs.lemmas.List.{length-map}
 use Rattle.cilk_commands.specs.syntax.Tree.{Program}
 use Rattle.cilk_commands.specs.labelled.Bodies.{label}
-use Rattle.cilk_draw.specs.replay.machine.model.Run.{Standing, after}
-use Rattle.cilk_draw.specs.replay.machine.model.End as end
-use Rattle.cilk_draw.specs.replay.log.choices.Words.{choice_of}
-use Rattle.cilk_draw.specs.replay.log.choices.declared.choice.Choice as code
-use Rattle.cilk_draw.specs.replay.machine.Situation.{Situation}
-use Rattle.cilk_draw.specs.replay.machine.Stands.{StandsAt}
-use Rattle.cilk_draw.specs.replay.Tape.{Tape, tape_of, IsAt}
+use Rattle.cilk_log_replay.specs.machine.model.Run.{Standing, after}
+use Rattle.cilk_log_replay.specs.machine.model.End as end
+use Rattle.cilk_log_replay.specs.log.choices.Words.{choice_of}
+use Rattle.cilk_log_replay.specs.log.choices.declared.choice.Choice as code
+use Rattle.cilk_log_replay.specs.machine.Situation.{Situation}
+use Rattle.cilk_log_replay.specs.machine.Stands.{StandsAt}
+use Rattle.cilk_log_replay.specs.Tape.{Tape, tape_of, IsAt}
 use Rattle.cilk_commands.specs.declared.status.Status.{Status}
 use Rattle.cilk_program_tapes.specs.declared.closing.Closing.{Closing}
 use Rattle.cilk_program_tapes.specs.Replaying.{ClosesAt, IsReplayed, status_at}

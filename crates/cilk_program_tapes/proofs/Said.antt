@@ -1,16 +1,16 @@
 -- What is told of a choice that is not possible, and of a trap.
 use Rattle.std.proofs.Common.{◌≡◌, ◌∙◌, inl, inr, ◌++◌, ℕ, Bool, true, false, List, [], Option, refl, sym, ap, subst}
 use Rattle.std.proofs.KnownBytes.{Appends-nil}
-use Rattle.cilk_draw.specs.replay.log.choices.declared.refusal.Refusal.{Refusal}
-use Rattle.cilk_draw.specs.replay.machine.model.State.{TrapKind}
-use Rattle.cilk_draw.specs.replay.machine.model.End as model
-use Rattle.cilk_draw.specs.replay.log.choices.Words.{end_of}
-use Rattle.cilk_draw.specs.replay.log.choices.declared.end.End.{End}
-use Rattle.cilk_draw.specs.replay.log.choices.declared.end.End.TheVariants as ends
-use Rattle.cilk_draw.specs.replay.log.Reading.{log_read}
-use Rattle.cilk_draw.specs.replay.log.Text.{Log}
-use Rattle.cilk_draw.specs.replay.declared.replay_fault.ReplayFault.{ReplayFault}
-use Rattle.cilk_draw.specs.replay.declared.replay_fault.ReplayFault.TheVariants as replay
+use Rattle.cilk_log_replay.specs.log.choices.declared.refusal.Refusal.{Refusal}
+use Rattle.cilk_log_replay.specs.machine.model.State.{TrapKind}
+use Rattle.cilk_log_replay.specs.machine.model.End as model
+use Rattle.cilk_log_replay.specs.log.choices.Words.{end_of}
+use Rattle.cilk_log_replay.specs.log.choices.declared.end.End.{End}
+use Rattle.cilk_log_replay.specs.log.choices.declared.end.End.TheVariants as ends
+use Rattle.cilk_log_replay.specs.log.Reading.{log_read}
+use Rattle.cilk_log_replay.specs.log.Text.{Log}
+use Rattle.cilk_log_replay.specs.declared.replay_fault.ReplayFault.{ReplayFault}
+use Rattle.cilk_log_replay.specs.declared.replay_fault.ReplayFault.TheVariants as replay
 use Rattle.std.specs.Prelude.{◌≢◌, Ok, codes}
 use Rattle.cilk_commands.specs.Front.{AppendsFront, Gains}
 use Rattle.cilk_commands.specs.Held.{Held, IsReadOf}

@@ -1,9 +1,9 @@
 -- The status that tells of a failure.
 use Rattle.std.proofs.Common.{◌≡◌, ◌∙◌, true, false, ℕ, List, refl, sym, ap}
 use Rattle.std.specs.Prelude.{◌≢◌, Result, Ok, Err, OnErr}
-use Rattle.cilk_draw.specs.replay.log.declared.fault.LogFault.TheVariants as log
-use Rattle.cilk_draw.specs.replay.declared.replay_fault.ReplayFault.{ReplayFault}
-use Rattle.cilk_draw.specs.replay.declared.replay_fault.ReplayFault.TheVariants as replay
+use Rattle.cilk_log_replay.specs.log.declared.fault.LogFault.TheVariants as log
+use Rattle.cilk_log_replay.specs.declared.replay_fault.ReplayFault.{ReplayFault}
+use Rattle.cilk_log_replay.specs.declared.replay_fault.ReplayFault.TheVariants as replay
 use Rattle.cilk_commands.specs.Loading.{Unready}
 use Rattle.cilk_commands.specs.Status.{is_answer}
 use Rattle.cilk_commands.proofs.Statuses.{not_both}

@@ -11,7 +11,6 @@ use Rattle.cilk_commands.specs.declared.status.Status.{Status}
 use Rattle.cilk_commands.specs.declared.status.Status.TheVariants as status
 use Rattle.cilk_commands.proofs.WholeText.{some_read, reason_held, unexplained, whole_held}
 use Rattle.cilk_program_tapes.specs.GivingUp.{FollowsProgram, GivesUp, GivesUpRun, IsBehind, IsBehindLog, IsOfRun, IsToldBehind, NoProgram, TellsWith}
-use Rattle.cilk_program_tapes.specs.Picturing.{DeclinesToDraw}
 use Rattle.cilk_program_tapes.specs.Saying.{IsSaid}
 use Rattle.cilk_program_tapes.specs.Taped.{Declines, IsUnread}
 use Rattle.cilk_program_tapes.specs.Telling.{status_of}
@@ -66,7 +65,7 @@ no_program_held known text why.Commands read told = absurd told
 no_program_held known text why.Answers read told = absurd told
 
 -- why there is nothing to replay
-unready_held : (known log : Option (List ℕ)) (text : List ℕ) (found : Failure) → IsReadOf known text
+pub unready_held : (known log : Option (List ℕ)) (text : List ℕ) (found : Failure) → IsReadOf known text
     → Held log (λ bytes. Declines text bytes (why.Program found))
     → Held known (λ t. Held log (λ bytes. Declines t bytes (why.Program found)))
 unready_held known log text found read told =
@@ -86,34 +85,6 @@ declines_held known log text why.CannotStore read told = absurd told.are
 declines_held known log text why.CannotStart read told = absurd told.are
 declines_held known log text why.Commands read told = absurd told.are
 declines_held known log text why.Answers read told = absurd told.are
-
--- why there is nothing to draw
-pub undrawn_held : (known log : Option (List ℕ)) (text : List ℕ) (found : RecordFailure) → IsReadOf known text
-    → Held log (λ bytes. DeclinesToDraw text bytes found) → Held known (λ t. Held log (λ bytes. DeclinesToDraw t bytes found))
-undrawn_held known log text (why.Program found) read told = unready_held known log text found read told
-undrawn_held known log text why.CannotRead read told = absurd told.are
-undrawn_held known log text (why.Log fault) read told =
-    whole_held known text (λ t. Held log (λ bytes. DeclinesToDraw t bytes (why.Log fault))) read told.are.ready.is.text.short told
-undrawn_held known log text (why.Replay fault) read told =
-    whole_held known text (λ t. Held log (λ bytes. DeclinesToDraw t bytes (why.Replay fault))) read told.are.is.ready.is.text.short told
-undrawn_held known log text why.TooLong read told =
-    whole_held known text (λ t. Held log (λ bytes. DeclinesToDraw t bytes why.TooLong)) read told.are.is_tape.is.ready.is.text.short told
-undrawn_held known log text why.CannotStore read told = absurd told.are
-undrawn_held known log text why.CannotStart read told = absurd told.are
-undrawn_held known log text why.Commands read told = absurd told.are
-undrawn_held known log text why.Answers read told = absurd told.are
-
--- what is no recorded schedule is not drawn either
-pub declines_to_draw : (text bytes : List ℕ) (found : RecordFailure) → Declines text bytes found → DeclinesToDraw text bytes found
-declines_to_draw text bytes (why.Program found) told = told
-declines_to_draw text bytes why.CannotRead told = absurd told
-declines_to_draw text bytes (why.Log fault) told = told
-declines_to_draw text bytes (why.Replay fault) told = told
-declines_to_draw text bytes why.TooLong told = absurd told
-declines_to_draw text bytes why.CannotStore told = absurd told
-declines_to_draw text bytes why.CannotStart told = absurd told
-declines_to_draw text bytes why.Commands told = absurd told
-declines_to_draw text bytes why.Answers told = absurd told
 
 -- what is told of a program that can be run
 pub follows_of : (text : List ℕ) (p : Program) (found : RecordFailure) → IsReady text p → FollowsProgram text found

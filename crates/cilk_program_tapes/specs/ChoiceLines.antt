@@ -1,12 +1,12 @@
 -- Where a log tells a choice, and what is told of one that is not possible.
 use Rattle.std.specs.Prelude.{◌≡◌, ◌≤◌, ◌<◌, ◌-◌, ◌+◌, ℕ, zero, suc, if◌then◌else◌, List, ◌∷◌, length, take, map, ◌++◌, Option, Some, None, Ok}
 use Rattle.std.specs.Prelude.{slice_get, codes, decimal}
-use Rattle.cilk_draw.specs.replay.machine.model.Choice.{Choice}
-use Rattle.cilk_draw.specs.replay.log.choices.declared.refusal.Refusal.{Refusal}
-use Rattle.cilk_draw.specs.replay.log.Choices.{choice_text}
-use Rattle.cilk_draw.specs.replay.log.Reading.{log_read}
-use Rattle.cilk_draw.specs.replay.log.Stretches.{Stretch, once, are_joined, count_of, stretches_of}
-use Rattle.cilk_draw.specs.replay.log.Text.{Log, log_lines}
+use Rattle.cilk_log_replay.specs.machine.model.Choice.{Choice}
+use Rattle.cilk_log_replay.specs.log.choices.declared.refusal.Refusal.{Refusal}
+use Rattle.cilk_log_replay.specs.log.Choices.{choice_text}
+use Rattle.cilk_log_replay.specs.log.Reading.{log_read}
+use Rattle.cilk_log_replay.specs.log.Stretches.{Stretch, once, are_joined, count_of, stretches_of}
+use Rattle.cilk_log_replay.specs.log.Text.{Log, log_lines}
 use Rattle.cilk_program_tapes.specs.Meanings.{refusal_meaning}
 
 -- choice k of some, counted from 1

@@ -1,6 +1,6 @@
 -- Worked rows: in which lines logs tell their choices.
 use Rattle.std.specs.Prelude.{◌≡◌, refl, None}
-use Rattle.cilk_draw.specs.replay.log.Rows.{stolen}
+use Rattle.cilk_log_replay.specs.log.Rows.{stolen}
 use Rattle.cilk_program_tapes.specs.ChoiceLines.{line_of_choice}
 
 -- behind three lines of version 2: `1 step`, `2 steal 1`, `2 step`, `1 step 4`

@@ -6,7 +6,5 @@ pub mod Telling
 pub mod GivingUp
 pub mod Taped
 pub mod Replaying
-pub mod Picturing
 pub use Rattle.cilk_commands.specs as commands
-pub use Rattle.cilk_draw.specs as draw
-pub use Rattle.cilk_draw.specs.replay
+pub use Rattle.cilk_log_replay.specs as replay

@@ -1,10 +1,10 @@
 -- What traps and refusals mean, in words for people.
 use Rattle.std.specs.Prelude.{ℕ, List, codes}
-use Rattle.cilk_draw.specs.replay.machine.model.declared.trap.Trap.{Trap}
-use Rattle.cilk_draw.specs.replay.machine.model.declared.trap.Trap.TheVariants.{Overflow, ZeroDivide, Shift, Index}
-use Rattle.cilk_draw.specs.replay.machine.model.State.{TrapKind, of_value, lock, held_lock, depth, instances, output}
-use Rattle.cilk_draw.specs.replay.log.choices.declared.refusal.Refusal.{Refusal}
-use Rattle.cilk_draw.specs.replay.log.choices.declared.refusal.Refusal.TheVariants as refusal
+use Rattle.cilk_log_replay.specs.machine.model.declared.trap.Trap.{Trap}
+use Rattle.cilk_log_replay.specs.machine.model.declared.trap.Trap.TheVariants.{Overflow, ZeroDivide, Shift, Index}
+use Rattle.cilk_log_replay.specs.machine.model.State.{TrapKind, of_value, lock, held_lock, depth, instances, output}
+use Rattle.cilk_log_replay.specs.log.choices.declared.refusal.Refusal.{Refusal}
+use Rattle.cilk_log_replay.specs.log.choices.declared.refusal.Refusal.TheVariants as refusal
 
 abbrev pub value_meaning : Trap → List ℕ
 value_meaning Overflow = codes "The result of an operator is no `int`: it is less than -2147483648 or more than 2147483647"

@@ -1,10 +1,10 @@
 -- What a replay writes, and the status that tells how a program ended.
 use Rattle.std.specs.Prelude.{◌≡◌, ℕ, List, length, Option, Some}
 use Rattle.cilk_commands.specs.labelled.Bodies.{label}
-use Rattle.cilk_draw.specs.replay.machine.model.Run.{Standing, Position}
-use Rattle.cilk_draw.specs.replay.machine.model.End as model
-use Rattle.cilk_draw.specs.replay.machine.Situation.{Situation}
-use Rattle.cilk_draw.specs.replay.Tape.{Tape, position_at}
+use Rattle.cilk_log_replay.specs.machine.model.Run.{Standing, Position}
+use Rattle.cilk_log_replay.specs.machine.model.End as model
+use Rattle.cilk_log_replay.specs.machine.Situation.{Situation}
+use Rattle.cilk_log_replay.specs.Tape.{Tape, position_at}
 use Rattle.cilk_commands.specs.Front.{Gains, GainsFront}
 use Rattle.cilk_commands.specs.Held.{Held}
 use Rattle.cilk_commands.specs.declared.status.Status.{Status}

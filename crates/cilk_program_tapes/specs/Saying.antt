@@ -1,16 +1,16 @@
 -- What is told of a choice of a log that is not possible, and of a trap behind an answer.
 use Rattle.std.specs.Prelude.{⊤, ◌≡◌, ◌⊎◌, ℕ, Bool, true, false, List, [], ◌++◌, Option, Some, None, codes}
 use Rattle.std.specs.Io.KnownBytes.{Appends}
-use Rattle.cilk_draw.specs.replay.machine.model.End as model
-use Rattle.cilk_draw.specs.replay.machine.model.Path.{Path}
-use Rattle.cilk_draw.specs.replay.machine.model.State.{TrapKind}
-use Rattle.cilk_draw.specs.replay.machine.frame.Kinds.{kind_of}
-use Rattle.cilk_draw.specs.replay.log.choices.declared.end.End.{End}
-use Rattle.cilk_draw.specs.replay.log.choices.declared.end.End.TheVariants as ends
-use Rattle.cilk_draw.specs.replay.log.choices.declared.refusal.Refusal.{Refusal}
-use Rattle.cilk_draw.specs.replay.log.Text.{Log}
-use Rattle.cilk_draw.specs.replay.declared.replay_fault.ReplayFault.{ReplayFault}
-use Rattle.cilk_draw.specs.replay.declared.replay_fault.ReplayFault.TheVariants as replay
+use Rattle.cilk_log_replay.specs.machine.model.End as model
+use Rattle.cilk_log_replay.specs.machine.model.Path.{Path}
+use Rattle.cilk_log_replay.specs.machine.model.State.{TrapKind}
+use Rattle.cilk_log_replay.specs.machine.frame.Kinds.{kind_of}
+use Rattle.cilk_log_replay.specs.log.choices.declared.end.End.{End}
+use Rattle.cilk_log_replay.specs.log.choices.declared.end.End.TheVariants as ends
+use Rattle.cilk_log_replay.specs.log.choices.declared.refusal.Refusal.{Refusal}
+use Rattle.cilk_log_replay.specs.log.Text.{Log}
+use Rattle.cilk_log_replay.specs.declared.replay_fault.ReplayFault.{ReplayFault}
+use Rattle.cilk_log_replay.specs.declared.replay_fault.ReplayFault.TheVariants as replay
 use Rattle.cilk_commands.specs.Front.{AppendsFront}
 use Rattle.cilk_commands.specs.Held.{Held, IsReadOf}
 use Rattle.cilk_commands.specs.Telling.{IsActionTold}

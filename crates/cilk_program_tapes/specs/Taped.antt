@@ -2,13 +2,13 @@
 use Rattle.std.specs.Prelude.{◌≡◌, ⊤, true, ℕ, List, Option, Ok}
 use Rattle.cilk_commands.specs.syntax.Tree.{Program}
 use Rattle.cilk_commands.specs.ProgramText.{program_text}
-use Rattle.cilk_draw.specs.replay.log.Naming.{is_of}
-use Rattle.cilk_draw.specs.replay.log.Reading.{log_read}
-use Rattle.cilk_draw.specs.replay.log.Words.{fault_of, IsFault}
-use Rattle.cilk_draw.specs.replay.log.declared.fault.LogFault.{LogFault}
-use Rattle.cilk_draw.specs.replay.Tape.{Tape}
-use Rattle.cilk_draw.specs.replay.ReplayFaults.{IsNamedFaultOf}
-use Rattle.cilk_draw.specs.replay.declared.replay_fault.ReplayFault.{ReplayFault}
+use Rattle.cilk_log_replay.specs.log.Naming.{is_of}
+use Rattle.cilk_log_replay.specs.log.Reading.{log_read}
+use Rattle.cilk_log_replay.specs.log.Words.{fault_of, IsFault}
+use Rattle.cilk_log_replay.specs.log.declared.fault.LogFault.{LogFault}
+use Rattle.cilk_log_replay.specs.Tape.{Tape}
+use Rattle.cilk_log_replay.specs.ReplayFaults.{IsNamedFaultOf}
+use Rattle.cilk_log_replay.specs.declared.replay_fault.ReplayFault.{ReplayFault}
 use Rattle.cilk_commands.specs.Loading.{IsReady, Unready}
 use Rattle.cilk_commands.specs.declared.failure.Failure.TheVariants as failure
 use Rattle.cilk_program_tapes.specs.declared.failure.RecordFailure.{RecordFailure}

@@ -1,11 +1,11 @@
 -- The line that tells why there is no answer about a recorded schedule, and the status.
 use Rattle.std.specs.Prelude.{ℕ, List, ◌++◌, codes, decimal}
-use Rattle.cilk_draw.specs.replay.log.choices.declared.refusal.Refusal.{Refusal}
-use Rattle.cilk_draw.specs.replay.log.choices.declared.refusal.Refusal.TheVariants as refusal
-use Rattle.cilk_draw.specs.replay.log.declared.fault.LogFault.{LogFault}
-use Rattle.cilk_draw.specs.replay.log.declared.fault.LogFault.TheVariants as log
-use Rattle.cilk_draw.specs.replay.declared.replay_fault.ReplayFault.{ReplayFault}
-use Rattle.cilk_draw.specs.replay.declared.replay_fault.ReplayFault.TheVariants as replay
+use Rattle.cilk_log_replay.specs.log.choices.declared.refusal.Refusal.{Refusal}
+use Rattle.cilk_log_replay.specs.log.choices.declared.refusal.Refusal.TheVariants as refusal
+use Rattle.cilk_log_replay.specs.log.declared.fault.LogFault.{LogFault}
+use Rattle.cilk_log_replay.specs.log.declared.fault.LogFault.TheVariants as log
+use Rattle.cilk_log_replay.specs.declared.replay_fault.ReplayFault.{ReplayFault}
+use Rattle.cilk_log_replay.specs.declared.replay_fault.ReplayFault.TheVariants as replay
 use Rattle.cilk_commands.specs.declared.failure.Failure.TheVariants as failure
 use Rattle.cilk_commands.specs.declared.status.Status.{Status}
 use Rattle.cilk_commands.specs.declared.status.Status.TheVariants as status

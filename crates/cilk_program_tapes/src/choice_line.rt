@@ -2,14 +2,14 @@
 
 ghost use Rattle.std.specs.Prelude.{◌≡◌, ◌≤◌, ◌⊎◌, [], IfOk, length, map, option_map, string_bytes};
 ghost use Rattle.cilk_commands.specs.syntax.Appends.{Appends};
-ghost use Rattle.cilk_draw.specs.replay.log.choices.Words.{act_of, choice_of};
-ghost use Rattle.cilk_draw.specs.replay.log.Choices.{act_text, choice_text};
-ghost use Rattle.cilk_draw.specs.replay.log.Stretches.{are_joined, stretches_of};
-ghost use Rattle.cilk_draw.specs.replay.log.Words.{log_of};
+ghost use Rattle.cilk_log_replay.specs.log.choices.Words.{act_of, choice_of};
+ghost use Rattle.cilk_log_replay.specs.log.Choices.{act_text, choice_text};
+ghost use Rattle.cilk_log_replay.specs.log.Stretches.{are_joined, stretches_of};
+ghost use Rattle.cilk_log_replay.specs.log.Words.{log_of};
 ghost use Rattle.cilk_program_tapes.specs.ChoiceLines.{IsChoiceOf, choice_words, line_of_choice, new_lines, nth_choice};
 
 use crate::meaning::refusal_meaning;
-use cilk_draw::{Act, Choice, Log, Memory, Refusal};
+use cilk_log_replay::{Act, Choice, Log, Memory, Refusal};
 use std::alloc::Global;
 
 /// What is told of the choice of this number, counted from 1, which is refused so; nothing where the log has none of that number.

@@ -1,17 +1,17 @@
 //! How a program stands whose choices are made.
 
 ghost use Rattle.std.specs.Prelude.{◌≡◌, true, length, IfOk, IfErr};
-ghost use Rattle.cilk_draw.specs.replay.log.choices.Words.{end_of};
-ghost use Rattle.cilk_draw.specs.replay.machine.Stands.{StandsAt};
-ghost use Rattle.cilk_draw.specs.replay.machine.model.End as model;
-ghost use Rattle.cilk_draw.specs.replay.machine.model.Run.{Standing};
+ghost use Rattle.cilk_log_replay.specs.log.choices.Words.{end_of};
+ghost use Rattle.cilk_log_replay.specs.machine.Stands.{StandsAt};
+ghost use Rattle.cilk_log_replay.specs.machine.model.End as model;
+ghost use Rattle.cilk_log_replay.specs.machine.model.Run.{Standing};
 ghost use Rattle.cilk_commands.specs.Status.{is_answer};
 ghost use Rattle.cilk_program_tapes.specs.Replaying.{ClosesAt, status_at};
 ghost use Rattle.cilk_program_tapes.specs.Saying.{IsTrapOf, trap_of};
 
 use crate::trapped::Trapped;
 use cilk_commands::{Failure, Status};
-use cilk_draw::{End, Machine, ending};
+use cilk_log_replay::{End, Machine, ending};
 use std::alloc::Global;
 
 /// The closing text of a run, the status that tells how it ended, and the trap, if one ended it.

@@ -8,7 +8,7 @@ ghost use Rattle.cilk_program_tapes.specs.Telling.{choice_line, code_of, log_lin
 use crate::file_names::FileNames;
 use crate::log_task::LogTask;
 use cilk_commands::{Failure, Status, tell_of, write_parts, write_whole};
-use cilk_draw::{LogFault, Refusal, ReplayFault};
+use cilk_log_replay::{LogFault, Refusal, ReplayFault};
 use itoa::Buffer;
 use std::alloc::Global;
 use std::io;

@@ -1,10 +1,10 @@
 //! What the kinds of traps and the reasons of refusals mean, in words for people.
 
 ghost use Rattle.std.specs.Prelude.{◌≡◌};
-ghost use Rattle.cilk_draw.specs.replay.machine.frame.Kinds.{kind_of};
+ghost use Rattle.cilk_log_replay.specs.machine.frame.Kinds.{kind_of};
 ghost use Rattle.cilk_program_tapes.specs.Meanings.{refusal_meaning, trap_meaning, value_meaning};
 
-use cilk_draw::{Refusal, Trap, TrapKind};
+use cilk_log_replay::{Refusal, Trap, TrapKind};
 
 /// What a kind of traps means: a sentence without its full stop.
 pub(crate) fn trap_meaning(kind: TrapKind) -> &'static str

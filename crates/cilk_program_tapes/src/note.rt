@@ -1,11 +1,11 @@
 //! What is told behind the line of a failure about a recorded schedule.
 
 ghost use Rattle.std.specs.Prelude.{◌≡◌, [], IfOk, string_bytes};
-ghost use Rattle.cilk_draw.specs.replay.log.Words.{log_of};
+ghost use Rattle.cilk_log_replay.specs.log.Words.{log_of};
 ghost use Rattle.cilk_program_tapes.specs.Saying.{IsFaultTold};
 
 use crate::choice_line::choice_told;
-use cilk_draw::{Log, Memory, ReplayFault};
+use cilk_log_replay::{Log, Memory, ReplayFault};
 use std::alloc::Global;
 
 /// What is told behind the line of a failure, where more is asked for.

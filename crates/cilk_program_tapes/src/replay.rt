@@ -18,7 +18,7 @@ use crate::streams::Streams;
 use crate::taped::{Taped, tape_in};
 use crate::trapped::Ended;
 use cilk_commands::{Status, read_text, write_answer};
-use cilk_draw::play_all;
+use cilk_log_replay::play_all;
 use std::alloc::Global;
 use std::io::{Read, Write};
 

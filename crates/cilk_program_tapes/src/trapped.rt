@@ -3,12 +3,12 @@
 ghost use Rattle.std.specs.Prelude.{◌≡◌, ◌++◌, ℕ, List, OnErr, OnOk, false, true, codes};
 ghost use Rattle.std.specs.Io.KnownBytes.{Appends};
 ghost use Rattle.cilk_commands.specs.Front.{AppendsFront};
-ghost use Rattle.cilk_draw.specs.replay.machine.frame.Kinds.{kind_of};
+ghost use Rattle.cilk_log_replay.specs.machine.frame.Kinds.{kind_of};
 ghost use Rattle.cilk_program_tapes.specs.Saying.{ClosesTrapped, IsTrapOf, TellsTrap, tells_trap};
 
 use crate::meaning::trap_meaning;
 use cilk_commands::{Status, action_told, write_parts};
-use cilk_draw::TrapKind;
+use cilk_log_replay::TrapKind;
 use std::alloc::Global;
 use std::io;
 use std::io::Write;

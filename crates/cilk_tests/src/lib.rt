@@ -1,15 +1,12 @@
-//! The tests of what the built program does not show, of reading, recording, debugging, machines and their parts, and runs. They stand in a crate of their own,
-//! since one that has tests is proved once more with them. Beside them stands whether two trees say the same (`alike.rt`), which they alone ask.
+//! The tests of what the built program does not show, of reading, recording, machines and their parts. They stand in a crate of their own, since one that
+//! has tests is proved once more with them; those of runs and debuggers stand in another. Beside them stands whether two trees say the same (`alike.rt`),
+//! which they alone ask.
 #![tactic(auto)]
 
 pub mod alike;
-#[cfg(test)]
-mod debugging;
 #[cfg(test)]
 mod front;
 #[cfg(test)]
 mod recorded;
 #[cfg(test)]
 mod running;
-#[cfg(test)]
-mod sessions;

@@ -1,16 +1,14 @@
 //! Frames, hands, instances and schedules of more workers than one, and readers and writers that break: what the program does not show.
 
 mod frames;
-mod glimpses;
 mod hands;
 mod instances;
 mod schedules;
 mod streams;
 mod undone;
-mod workers;
 
 use cilk_commands::ready_of;
-use cilk_run::Loaded;
+use cilk_machine::Loaded;
 use std::alloc::Global;
 use std::process::Abort;
 

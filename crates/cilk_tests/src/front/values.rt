@@ -2,7 +2,7 @@
 
 ghost use Rattle.std.specs.Prelude.{◌≡◌};
 ghost use Rattle.cilk_eval.specs.nodes.View.{term_of};
-ghost use Rattle.cilk_debug.specs.machine.labelled.Term as term;
+ghost use Rattle.cilk_machine.specs.labelled.Term as term;
 
 use cilk_eval::{
     Area, Code, CodeNode, Slot, Slots, Trap, apply, eval, quotients_are_rounded, unary,

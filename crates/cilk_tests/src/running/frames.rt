@@ -8,7 +8,7 @@ use cilk_frame::{
     Await, Body, Frame, Id, a_call_stands, a_start_stands, a_write_stands, an_action_stands,
     values_are_seen,
 };
-use cilk_run::Loaded;
+use cilk_machine::Loaded;
 use std::alloc::Global;
 use std::process::Abort;
 

@@ -1,11 +1,11 @@
 //! Frames that go from hand to hand.
 
 ghost use Rattle.std.specs.Prelude.{◌≡◌, None, length};
-ghost use Rattle.cilk_run.specs.model.Hands.{IsWorker, hand_of, with_hand};
+ghost use Rattle.cilk_machine.specs.model.Hands.{IsWorker, hand_of, with_hand};
 
 use super::program;
 use cilk_frame::{Frame, Id};
-use cilk_run::Loaded;
+use cilk_machine::Loaded;
 use cilk_sched::{
     Hands, each_frame_is_counted, moves_are_counted, names_are_read, names_go_along,
     others_keep_their_places,

@@ -5,7 +5,7 @@ ghost use Rattle.cilk_spawn.specs.Nodes.{node_at, is_live};
 
 use super::{is_word, program};
 use cilk_frame::{Area, BinOp, Slot};
-use cilk_run::Loaded;
+use cilk_machine::Loaded;
 use cilk_spawn::{
     Arguments, Delivery, Ending, Fate, Frame, Id, Path, Receiver, Tree, a_return_ends_and_sends,
     ids_change, paths_are_names, paths_stay, trees_stay_trees,

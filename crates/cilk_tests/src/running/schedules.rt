@@ -2,9 +2,9 @@
 
 use super::{is_text, program};
 use cilk_frame::Id;
-use cilk_run::Act::{Pop, Steal, Step};
-use cilk_run::Refusal::{Busy, DequeEmpty, HandEmpty, NoWorker, Over, Waiting};
-use cilk_run::{Act, Choice, Did, Event, Machine, MachineFault, Refusal, ending};
+use cilk_machine::Act::{Pop, Steal, Step};
+use cilk_machine::Refusal::{Busy, DequeEmpty, HandEmpty, NoWorker, Over, Waiting};
+use cilk_machine::{Act, Choice, Did, Event, Machine, MachineFault, Refusal, ending};
 use std::alloc::Global;
 use std::process::Abort;
 

@@ -1,7 +1,7 @@
 //! A machine that keeps a record of each choice goes back, choice by choice, to what it was.
 
 use super::{is_word, program};
-use cilk_run::{Act, Choice, Machine};
+use cilk_machine::{Act, Choice, Machine};
 use cilk_view::What;
 use std::alloc::Global;
 use std::process::Abort;

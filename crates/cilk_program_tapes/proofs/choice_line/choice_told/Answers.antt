@@ -1,7 +1,7 @@
 use Rattle.std.proofs.Common.{◌≡◌, ◌≤◌, ◌∙◌, Some, ap, arith, inr, length, map, string_bytes}
 use Rattle.std.proofs.lemmas.List.{length-map}
-use Rattle.cilk_draw.specs.replay.log.choices.Words.{choice_of}
-use Rattle.cilk_draw.specs.replay.log.Words.{log_of}
+use Rattle.cilk_log_replay.specs.log.choices.Words.{choice_of}
+use Rattle.cilk_log_replay.specs.log.Words.{log_of}
 use Rattle.cilk_program_tapes.specs.ChoiceLines.{nth_choice}
 use Rattle.cilk_program_tapes.proofs.ChoiceLines.{nth_seen, nth_within, words_told}
 use Rattle.cilk_program_tapes.proofs.ChoiceStands.{choice_on_its_line}

@@ -1,6 +1,6 @@
 use Rattle.std.proofs.Common.{map, option_map, arith}
 use Rattle.std.proofs.lemmas.List.{at_drop_all}
-use Rattle.cilk_draw.specs.replay.log.choices.Words.{choice_of}
+use Rattle.cilk_log_replay.specs.log.choices.Words.{choice_of}
 use Rattle.cilk_program_tapes.proofs.ChoiceLines.{lines_behind, lines_counted}
 use Rattle.cilk_program_tapes.proofs.choice_line.lines_of.Goals as goal
 

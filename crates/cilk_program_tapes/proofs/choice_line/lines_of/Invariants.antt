@@ -1,5 +1,5 @@
 use Rattle.std.proofs.Common.{◌≡◌, ◌≤◌, ◌+◌, None, drop, map, option_map}
-use Rattle.cilk_draw.specs.replay.log.choices.Words.{choice_of}
+use Rattle.cilk_log_replay.specs.log.choices.Words.{choice_of}
 use Rattle.cilk_program_tapes.proofs.ChoiceLines.{lines_behind}
 use Rattle.cilk_program_tapes.proofs.choice_line.lines_of.Given as goal
 

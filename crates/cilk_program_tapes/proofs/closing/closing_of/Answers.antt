@@ -1,4 +1,4 @@
-use Rattle.cilk_draw.specs.replay.log.choices.Words.{end_of}
+use Rattle.cilk_log_replay.specs.log.choices.Words.{end_of}
 use Rattle.cilk_program_tapes.proofs.Replayed.{closes_by}
 use Rattle.cilk_program_tapes.proofs.closing.closing_of.Goals as goal
 

@@ -1,5 +1,5 @@
 use Rattle.std.proofs.Common.{string_bytes}
-use Rattle.cilk_draw.specs.replay.log.Words.{log_of}
+use Rattle.cilk_log_replay.specs.log.Words.{log_of}
 use Rattle.cilk_program_tapes.proofs.Said.{untold}
 use Rattle.cilk_program_tapes.proofs.note.words_on.Goals as goal
 

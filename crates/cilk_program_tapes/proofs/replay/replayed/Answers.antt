@@ -1,5 +1,5 @@
-use Rattle.cilk_draw.specs.replay.Tape.{tape_of}
-use Rattle.cilk_draw.specs.replay.log.Words.{log_of}
+use Rattle.cilk_log_replay.specs.Tape.{tape_of}
+use Rattle.cilk_log_replay.specs.log.Words.{log_of}
 use Rattle.cilk_program_tapes.specs.declared.failure.RecordFailure.TheVariants as why
 use Rattle.cilk_program_tapes.proofs.Said.{fault_said, unsaid}
 use Rattle.cilk_program_tapes.proofs.Replayed.{all_replayed}

@@ -1,5 +1,5 @@
 use Rattle.std.proofs.Common.{subst, sym}
-use Rattle.cilk_draw.specs.replay.machine.frame.Kinds.{kind_of}
+use Rattle.cilk_log_replay.specs.machine.frame.Kinds.{kind_of}
 use Rattle.cilk_commands.specs.Telling.{IsActionTold}
 use Rattle.cilk_commands.proofs.Fronts.{front_either}
 use Rattle.cilk_program_tapes.proofs.Said.{nothing_told, trap_told}
