@@ -19,6 +19,8 @@ ROOM = 3_500_000_000
 MOST_JOBS, LONG_JOBS = 4, 2
 # Checks beyond one a processor: what they do is done where those with longer chains above them leave a processor idle.
 MORE = 2
+# The most checks for each processor that `rt ci` has under way in the gate.
+PLACES = 3
 # How far behind the others a check stands at most, as `nice` has it: one that no other waits for.
 BEHIND = 10
 # What loading what a crate stands on weighs, in lines of code.
@@ -98,9 +100,10 @@ def processors():
     return min(len(os.sched_getaffinity(0)), rooms())
 
 
-def most_checks():
-    """Returns how many checks run side by side where they give way to each other: more than one a processor, and as many as there is memory for."""
-    return min(processors() + MORE, rooms())
+def places():
+    """Returns how many places `rt ci` may have, which takes nothing back once it has a place: as many as its checks that give way hold without keeping another
+    from one, and as there is memory for where few are large at a time."""
+    return max(processors(), min(PLACES * len(os.sched_getaffinity(0)), PLACES * rooms() // 2))
 
 
 @contextlib.contextmanager
@@ -201,7 +204,7 @@ class Turns:
     def __init__(self, crates, names):
         self.crates, self.left = crates, list(names)
         self.rooms = rooms()
-        self.most, self.checks = processors(), most_checks()
+        self.most, self.checks = processors(), min(processors() + MORE, self.rooms)
         self.behind = crates.behind(set(names))
         self.done, self.jobs = set(), {}
 
