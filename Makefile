@@ -27,8 +27,7 @@ test: ways
 # Counts the ways down through crates.txt, looks up what the pages name, and tells what is not as the house wants its files (docs/GATE.md).
 ways:
 	tools/ways
-	tools/pages
-	tools/house
+	tools/pages & pages=$$!; tools/house && wait $$pages
 
 # Tells what was dear in the last proofs: functions, and crates.
 costs:

@@ -17,7 +17,7 @@ use std::alloc::Global;
 use std::io::{Read, Write};
 
 /// An answer, and the status that tells how the subcommand ends with it.
-#[derive(Debug, Drop)]
+#[derive(Drop)]
 pub struct Answered {
     pub text: String,
     pub status: Status,

@@ -8,7 +8,7 @@ use Rattle.cilk_log_replay.specs.ReplayFaults.{IsFaultOf, IsNamedFaultOf}
 use Rattle.cilk_log_replay.specs.declared.replay_fault.ReplayFault.{ReplayFault}
 use Rattle.cilk_log_replay.specs.declared.replay_fault.ReplayFault.TheVariants as fault
 use Rattle.cilk_log_replay.proofs.Naming.{named_fault}
-use Rattle.cilk_debug.specs.declared.unplayable.Unplayable.{Unplayable}
+use Rattle.cilk_log_replay.specs.declared.unplayable.Unplayable.{Unplayable}
 
 pub named_debug_fault : (named : Option (List ℕ)) (t : Tape) (why : ReplayFault) → IsNamedFaultOf named t why → IsNamedDebugFaultOf named t (debug_fault why)
 named_debug_fault named t fault.OtherProgram told = told

@@ -1,6 +1,6 @@
 -- Where a move to a breakpoint ends.
 use Rattle.std.specs.Prelude.{ℕ, Bool, length, unwrap_or, is_some}
-use Rattle.cilk_debug.specs.Breaks.{next_stop, last_stop}
+use Rattle.cilk_log_replay.specs.Breaks.{next_stop, last_stop}
 use Rattle.cilk_debug.specs.Debugging.{Debugging}
 
 -- at the next one above the position, or behind all choices

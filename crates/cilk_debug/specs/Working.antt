@@ -1,7 +1,7 @@
 -- What contracts see of a debugger: what it shows, and what its moves cost.
 use Rattle.std.specs.Prelude.{◌+◌, ◌-◌, ◌^◌, ℕ, Bool, List, min}
 use Rattle.cilk_debug.specs.Debugging.{Debugging}
-use Rattle.cilk_debug.specs.Playing.{Playing, way}
+use Rattle.cilk_log_replay.specs.Playing.{Playing, way}
 
 pub record Working : Type 0 where
   pub shown : Debugging

@@ -17,11 +17,10 @@ ghost use Rattle.cilk_debug.specs.Seeking.{forward_position, is_any_ahead, back_
 ghost use Rattle.cilk_debug.specs.Working.{gone_to, with_marks};
 
 use crate::fault::{DebugFault, debug_fault};
-use crate::player::Player;
 use crate::position::put_position;
-use crate::unplayable::Unplayable;
 use cilk_log_replay::{
-    Loaded, Log, Memory, ReplayFault, Telling, ViewFault, What, is_crew, refuse_other,
+    Loaded, Log, Memory, Player, ReplayFault, Telling, Unplayable, ViewFault, What, is_crew,
+    refuse_other,
 };
 use std::alloc::Global;
 use std::marker::Model;

@@ -3,7 +3,7 @@
 use crate::command::Command;
 
 /// What stands next in an input.
-#[derive(Debug, Drop)]
+#[derive(Drop)]
 pub enum NextLine {
     /// A line with its newline asks this.
     Line(Command),

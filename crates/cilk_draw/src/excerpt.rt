@@ -3,7 +3,7 @@
 ghost use Rattle.std.specs.Prelude.{◌≡◌, ◌≤◌, ◌-◌};
 
 /// The choices of a schedule that are drawn: from the one of a number, counted from 1, up to that of another. What goes beyond the schedule is not there.
-#[derive(Clone, Copy, Debug)]
+#[derive(Clone, Copy)]
 pub struct Excerpt {
     pub from: u64,
     pub to: u64,

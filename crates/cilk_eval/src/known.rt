@@ -9,7 +9,7 @@ use crate::evaluate::{literal, settled};
 use cilk_frame::{Area, Code, CodeNode, Slot, Trap};
 
 /// A variable that is no element, and its value at some time.
-#[derive(Clone, Copy, Debug, PartialEq, Eq)]
+#[derive(Clone, Copy, PartialEq, Eq)]
 pub struct Known {
     pub slot: Slot,
     pub value: i32,

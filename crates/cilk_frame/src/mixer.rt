@@ -1,7 +1,7 @@
 //! Numbers that tell states apart for a table. Nothing is decided by one.
 
 /// A number that is made of others, one after another: of the same it is the same, and of others it mostly is another. It promises nothing.
-#[derive(Clone, Copy, Debug)]
+#[derive(Clone, Copy)]
 pub struct Mixer {
     mixed: u64,
 }

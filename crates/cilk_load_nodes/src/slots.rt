@@ -1,7 +1,7 @@
 //! What is lent to evaluate an expression: the cells of each area, and the answer to `SYNCHED`.
 
 /// The cells that an expression may read.
-#[derive(Clone, Copy, Debug)]
+#[derive(Clone, Copy)]
 pub struct Slots<'a> {
     /// The cells of the running activation.
     pub own: &'a [i32],

@@ -1,9 +1,15 @@
-//! The choices of a recorded schedule, made again from the start of a program.
+//! The choices of a recorded schedule, made again from the start of a program, and a player of them: a machine that goes to any place among them.
 #![tactic(auto)]
 
+mod finding;
+mod going;
 mod laws;
+mod player;
 mod replay_fault;
 mod replaying;
+mod stopping;
+mod track;
+mod unplayable;
 
 pub use cilk_log::{Choices, Log, LogFault, read_log, write_log};
 pub use cilk_machine::{
@@ -13,5 +19,7 @@ pub use cilk_machine::{
     look_ahead, number_in, plan_step, put_trapped, send, send_told,
 };
 pub use laws::none_is_bad;
+pub use player::Player;
 pub use replay_fault::ReplayFault;
 pub use replaying::{is_crew, make_again, opened, play, play_all, refuse_other};
+pub use unplayable::Unplayable;

@@ -3,7 +3,7 @@
 use cilk_spawn::Id;
 
 /// A lock, whose holder goes by its id (Cilk 5.4 manual, locks).
-#[derive(Clone, Copy, Debug, PartialEq, Eq)]
+#[derive(Clone, Copy, PartialEq, Eq)]
 pub enum Lock {
     /// It was not initialised yet.
     Unset,

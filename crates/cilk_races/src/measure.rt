@@ -1,7 +1,7 @@
 //! The numbers that are told of a run.
 
 /// The numbers of a run.
-#[derive(Debug, Drop)]
+#[derive(Drop)]
 pub struct Measure {
     /// How many choices were steps that did more than to move a frame.
     pub work: u64,

@@ -7,7 +7,7 @@ pub trait Gate {
 }
 
 /// Holds nobody.
-#[derive(Clone, Copy, Debug)]
+#[derive(Clone, Copy)]
 pub struct Open;
 
 impl Gate for Open {

@@ -6,7 +6,7 @@ ghost use Rattle.cilk_run.specs.Generator.{next_state, number_at, drawn_below};
 use std::marker::Model;
 
 /// SplitMix64 (Steele, Lea and Flood, 2014). It is for simulations, and for no secrets.
-#[derive(Debug, Drop)]
+#[derive(Drop)]
 pub struct SplitMix {
     state: u64,
 }

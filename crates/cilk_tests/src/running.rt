@@ -7,6 +7,7 @@ mod schedules;
 mod streams;
 mod undone;
 
+use crate::equal::equal;
 use cilk_commands::ready_of;
 use cilk_machine::Loaded;
 use std::alloc::Global;
@@ -18,9 +19,9 @@ fn program(rt: &impl Abort, alloc: Global, text: &str) -> Loaded {
 }
 
 fn is_text(rt: &impl Abort, text: &[u8], wanted: &str) {
-    assert_eq!(rt; text, wanted.as_bytes());
+    equal(rt, text, wanted.as_bytes());
 }
 
 fn is_word(rt: &impl Abort, word: &str, wanted: &str) {
-    assert_eq!(rt; word, wanted);
+    equal(rt, word, wanted);
 }

@@ -4,3 +4,5 @@
 
 #[cfg(test)]
 mod again;
+#[cfg(test)]
+mod equal;

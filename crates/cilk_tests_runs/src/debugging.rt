@@ -2,6 +2,7 @@
 
 mod work;
 
+use crate::equal::equal;
 use cilk_commands::ready_of;
 use cilk_debug::{DebugFault, Debugger, read_log};
 use std::alloc::Global;
@@ -63,10 +64,10 @@ fn first_choice_that_is_not_possible(rt: HostRuntime) {
         ),
     ] {
         match opened(&rt, rt.alloc(), SHORT, recorded) {
-            Ok(_) => assert_eq!(rt; recorded, wanted),
+            Ok(_) => equal(&rt, recorded, wanted),
             Err(fault) => {
                 let told = format!(in rt.alloc(); "{fault}").expect(&rt, "memory");
-                assert_eq!(rt; told.as_str(), wanted);
+                equal(&rt, told.as_str(), wanted);
             }
         }
     }

@@ -5,6 +5,8 @@
 #[cfg(test)]
 mod debugging;
 #[cfg(test)]
+mod equal;
+#[cfg(test)]
 mod running;
 #[cfg(test)]
 mod sessions;

@@ -1,6 +1,7 @@
 //! Sessions of a debugger over readers and writers that work, end, or fail.
 
 use crate::debugging;
+use crate::equal::equal;
 use cilk_debug::{Debugger, InputFault, SessionFault};
 use std::alloc::Global;
 use std::io;
@@ -40,7 +41,7 @@ fn answers(rt: &impl Abort, alloc: Global, debugger: &mut Debugger, input: &[u8]
     let mut reader = input;
     let mut out = Vec::new(alloc);
     let ended = debugger.session(&mut reader, &mut out);
-    assert_eq!(rt; ended, Ok(()));
+    equal(rt, ended, Ok(()));
     out
 }
 
@@ -48,11 +49,11 @@ fn answers(rt: &impl Abort, alloc: Global, debugger: &mut Debugger, input: &[u8]
 fn worked_sessions_come_out(rt: HostRuntime) {
     let mut debugger = debugger(&rt, rt.alloc());
     let first = answers(&rt, rt.alloc(), &mut debugger, FIRST.as_bytes());
-    assert_eq!(rt; first.as_slice(), FIRST_ANSWERS.as_bytes());
-    assert_eq!(rt; debugger.position(), 2);
+    equal(&rt, first.as_slice(), FIRST_ANSWERS.as_bytes());
+    equal(&rt, debugger.position(), 2);
     let second = answers(&rt, rt.alloc(), &mut debugger, SECOND.as_bytes());
-    assert_eq!(rt; second.as_slice(), SECOND_ANSWERS.as_bytes());
-    assert_eq!(rt; debugger.position(), 0);
+    equal(&rt, second.as_slice(), SECOND_ANSWERS.as_bytes());
+    equal(&rt, debugger.position(), 0);
 }
 
 // There may be 1,000,000 lines, and a line may have 4,096 bytes.
@@ -77,7 +78,7 @@ fn breaks_off(rt: &impl Abort, alloc: Global, input: &[u8], fault: InputFault) {
     let mut reader = input;
     let mut out = Vec::new(alloc);
     let ended = debugger.session(&mut reader, &mut out);
-    assert_eq!(rt; ended, Err(SessionFault::Read(fault)));
+    equal(rt, ended, Err(SessionFault::Read(fault)));
     assert!(rt; out.is_empty());
 }
 
@@ -120,12 +121,12 @@ fn each_read_fails_once(rt: HostRuntime) {
         };
         let mut out = Vec::new(rt.alloc());
         let ended = debugger.session(&mut reader, &mut out);
-        assert_eq!(rt; ended, Err(SessionFault::Read(InputFault::Device)));
+        equal(&rt, ended, Err(SessionFault::Read(InputFault::Device)));
         let lines = newlines_in(WALK.as_bytes(), given);
         let stands = [0, 1, 2, 1, 0];
         assert!(rt; lines < 5);
-        assert_eq!(rt; debugger.position(), stands[lines]);
-        assert_eq!(rt; newlines_in(&out, out.len()), 2 * lines);
+        equal(&rt, debugger.position(), stands[lines]);
+        equal(&rt, newlines_in(&out, out.len()), 2 * lines);
     }
 }
 
@@ -140,9 +141,9 @@ fn nothing_is_asked_for_behind_quit(rt: HostRuntime) {
     };
     let mut out = Vec::new(rt.alloc());
     let ended = debugger.session(&mut reader, &mut out);
-    assert_eq!(rt; ended, Ok(()));
-    assert_eq!(rt; reader.calls, 10);
-    assert_eq!(rt; debugger.position(), 1);
+    equal(&rt, ended, Ok(()));
+    equal(&rt, reader.calls, 10);
+    equal(&rt, debugger.position(), 1);
 }
 
 // Gives the lines of `WALK`, one at each call, and counts the calls before which not every line that was given has its
@@ -200,9 +201,9 @@ fn each_answer_is_flushed_before_the_next_line_is_asked_for(rt: HostRuntime) {
         answered: &answered,
     };
     let ended = debugger.session(&mut reader, &mut writer);
-    assert_eq!(rt; ended, Ok(()));
-    assert_eq!(rt; reader.late, 0);
-    assert_eq!(rt; answered.load(Ordering::SeqCst), 8);
+    equal(&rt, ended, Ok(()));
+    equal(&rt, reader.late, 0);
+    equal(&rt, answered.load(Ordering::SeqCst), 8);
 }
 
 // Takes `room` bytes, one at each call, and then fails.
@@ -235,10 +236,10 @@ fn each_write_fails_once(rt: HostRuntime) {
         let mut reader = WALK.as_bytes();
         let mut writer = Full { room };
         let ended = debugger.session(&mut reader, &mut writer);
-        assert_eq!(rt; ended, Err(SessionFault::Write));
+        equal(&rt, ended, Err(SessionFault::Write));
         let newlines = newlines_in(&whole, room);
         let stands = [1, 2, 1, 0];
         assert!(rt; newlines < 8);
-        assert_eq!(rt; debugger.position(), stands[newlines / 2]);
+        equal(&rt, debugger.position(), stands[newlines / 2]);
     }
 }

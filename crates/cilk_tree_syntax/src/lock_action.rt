@@ -4,7 +4,7 @@ ghost use Rattle.std.specs.Prelude.{◌≡◌};
 ghost use Rattle.cilk_tree_syntax.specs.LockWord.{lock_word};
 
 /// What is done to a lock (Cilk 5.4 manual, locks).
-#[derive(Clone, Copy, Debug, PartialEq, Eq)]
+#[derive(Clone, Copy, PartialEq, Eq)]
 pub enum LockAction {
     Init,
     Lock,

@@ -34,7 +34,7 @@ For more information, try '--help'.
 ";
 
 /// Which words do not go together.
-#[derive(Clone, Copy, Debug, PartialEq, Eq)]
+#[derive(Clone, Copy)]
 pub enum Clash {
     /// A dash stands for the program, and commands are read from standard input.
     DashAsProgram,

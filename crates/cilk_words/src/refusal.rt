@@ -7,7 +7,7 @@ use clap::error::ErrorKind;
 use std::alloc::Global;
 
 /// Why the words ask for no task, with what is told instead.
-#[derive(Debug, Drop)]
+#[derive(Drop)]
 pub enum NoRequest {
     /// Help is asked for, which is this text.
     Help(String),

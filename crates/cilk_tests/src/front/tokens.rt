@@ -2,6 +2,7 @@
 
 ghost use Rattle.cilk_lex.specs.Reading.{IsWithin};
 
+use crate::equal::equal;
 use cilk_lex::{LexFault, Token, line_col, tokens};
 use std::alloc::Global;
 use std::fmt::Write;
@@ -64,7 +65,7 @@ fn tokens_at_their_places(rt: HostRuntime) {
         ),
     ] {
         let seen = shown(&rt, rt.alloc(), text);
-        assert_eq!(rt; seen.as_str(), list);
+        equal(&rt, seen.as_str(), list);
     }
 }
 
@@ -137,7 +138,7 @@ fn words_and_marks(rt: HostRuntime) {
     for line in WORDS_AND_MARKS.lines() {
         let (text, list) = line.split_once(" => ").expect(&rt, line);
         let seen = shown(&rt, rt.alloc(), text);
-        assert_eq!(rt; seen.as_str().trim(), list);
+        equal(&rt, seen.as_str().trim(), list);
     }
 }
 
@@ -158,10 +159,10 @@ fn texts_without_tokens(rt: HostRuntime) {
         // A byte past ASCII right behind a mark.
         ("<é", LexFault::BadByte(1)),
     ] {
-        assert_eq!(rt; tokens(rt.alloc(), text).err(), Some(fault));
+        equal(&rt, tokens(rt.alloc(), text).err(), Some(fault));
     }
-    assert_eq!(rt; LexFault::BadNumber(7).place(), 7);
-    assert_eq!(rt; LexFault::TooLong.place(), 0);
+    equal(&rt, LexFault::BadNumber(7).place(), 7);
+    equal(&rt, LexFault::TooLong.place(), 0);
 }
 
 #[test]
@@ -171,21 +172,22 @@ fn longest_text(rt: HostRuntime) {
         text.push_str(" ").expect(&rt, "memory");
     }
     let list = tokens(rt.alloc(), text.as_str()).expect(&rt, "too long");
-    assert_eq!(rt; list.len(), 0);
+    equal(&rt, list.len(), 0);
     text.push_str("@").expect(&rt, "memory");
-    assert_eq!(rt;
+    equal(
+        &rt,
         tokens(rt.alloc(), text.as_str()).err(),
-        Some(LexFault::TooLong)
+        Some(LexFault::TooLong),
     );
 }
 
 #[test]
 fn lines_and_columns(rt: HostRuntime) {
     let text = "ab\n\ncde\n";
-    assert_eq!(rt; line_col(text, 0), (1, 1));
-    assert_eq!(rt; line_col(text, 2), (1, 3));
-    assert_eq!(rt; line_col(text, 3), (2, 1));
-    assert_eq!(rt; line_col(text, 4), (3, 1));
-    assert_eq!(rt; line_col(text, 6), (3, 3));
-    assert_eq!(rt; line_col(text, 8), (4, 1));
+    equal(&rt, line_col(text, 0), (1, 1));
+    equal(&rt, line_col(text, 2), (1, 3));
+    equal(&rt, line_col(text, 3), (2, 1));
+    equal(&rt, line_col(text, 4), (3, 1));
+    equal(&rt, line_col(text, 6), (3, 3));
+    equal(&rt, line_col(text, 8), (4, 1));
 }

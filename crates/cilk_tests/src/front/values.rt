@@ -4,6 +4,7 @@ ghost use Rattle.std.specs.Prelude.{◌≡◌};
 ghost use Rattle.cilk_eval.specs.nodes.View.{term_of};
 ghost use Rattle.cilk_machine.specs.labelled.Term as term;
 
+use crate::equal::equal;
 use cilk_eval::{
     Area, Code, CodeNode, Slot, Slots, Trap, apply, eval, quotients_are_rounded, unary,
     value_is_of_what_is_read,
@@ -15,32 +16,32 @@ use std::process::Abort;
 #[test]
 fn traps(rt: HostRuntime) {
     let least = i32::MIN;
-    assert_eq!(rt; apply(BinOp::Divide, least, -1), Err(Trap::Overflow));
-    assert_eq!(rt; apply(BinOp::Remainder, least, -1), Err(Trap::Overflow));
-    assert_eq!(rt; apply(BinOp::Remainder, 5, 0), Err(Trap::ZeroDivide));
-    assert_eq!(rt; apply(BinOp::ShiftLeft, 1, 31), Err(Trap::Overflow));
-    assert_eq!(rt; apply(BinOp::ShiftLeft, -1, 0), Err(Trap::Shift));
-    assert_eq!(rt; apply(BinOp::ShiftRight, 1, 32), Err(Trap::Shift));
-    assert_eq!(rt; apply(BinOp::Add, i32::MAX, 1), Err(Trap::Overflow));
-    assert_eq!(rt; unary(UnOp::Minus, least), Err(Trap::Overflow));
+    equal(&rt, apply(BinOp::Divide, least, -1), Err(Trap::Overflow));
+    equal(&rt, apply(BinOp::Remainder, least, -1), Err(Trap::Overflow));
+    equal(&rt, apply(BinOp::Remainder, 5, 0), Err(Trap::ZeroDivide));
+    equal(&rt, apply(BinOp::ShiftLeft, 1, 31), Err(Trap::Overflow));
+    equal(&rt, apply(BinOp::ShiftLeft, -1, 0), Err(Trap::Shift));
+    equal(&rt, apply(BinOp::ShiftRight, 1, 32), Err(Trap::Shift));
+    equal(&rt, apply(BinOp::Add, i32::MAX, 1), Err(Trap::Overflow));
+    equal(&rt, unary(UnOp::Minus, least), Err(Trap::Overflow));
 }
 
 #[test]
 fn values(rt: HostRuntime) {
-    assert_eq!(rt; apply(BinOp::Divide, -7, 2), Ok(-3));
-    assert_eq!(rt; apply(BinOp::Remainder, -7, 2), Ok(-1));
-    assert_eq!(rt; apply(BinOp::ShiftRight, -7, 1), Ok(-4));
-    assert_eq!(rt; apply(BinOp::ShiftLeft, 3, 29), Ok(1610612736));
-    assert_eq!(rt; apply(BinOp::Subtract, 2, 5), Ok(-3));
-    assert_eq!(rt; apply(BinOp::Multiply, 65536, -32768), Ok(i32::MIN));
-    assert_eq!(rt; apply(BinOp::BitAnd, -6, 13), Ok(8));
-    assert_eq!(rt; apply(BinOp::BitOr, -6, 13), Ok(-1));
-    assert_eq!(rt; apply(BinOp::BitXor, -6, 13), Ok(-9));
-    assert_eq!(rt; apply(BinOp::GreaterOrEqual, -1, 0), Ok(0));
-    assert_eq!(rt; apply(BinOp::And, -1, 0), Ok(0));
-    assert_eq!(rt; apply(BinOp::Or, -1, 0), Ok(1));
-    assert_eq!(rt; unary(UnOp::Complement, 5), Ok(-6));
-    assert_eq!(rt; unary(UnOp::Not, 5), Ok(0));
+    equal(&rt, apply(BinOp::Divide, -7, 2), Ok(-3));
+    equal(&rt, apply(BinOp::Remainder, -7, 2), Ok(-1));
+    equal(&rt, apply(BinOp::ShiftRight, -7, 1), Ok(-4));
+    equal(&rt, apply(BinOp::ShiftLeft, 3, 29), Ok(1610612736));
+    equal(&rt, apply(BinOp::Subtract, 2, 5), Ok(-3));
+    equal(&rt, apply(BinOp::Multiply, 65536, -32768), Ok(i32::MIN));
+    equal(&rt, apply(BinOp::BitAnd, -6, 13), Ok(8));
+    equal(&rt, apply(BinOp::BitOr, -6, 13), Ok(-1));
+    equal(&rt, apply(BinOp::BitXor, -6, 13), Ok(-9));
+    equal(&rt, apply(BinOp::GreaterOrEqual, -1, 0), Ok(0));
+    equal(&rt, apply(BinOp::And, -1, 0), Ok(0));
+    equal(&rt, apply(BinOp::Or, -1, 0), Ok(1));
+    equal(&rt, unary(UnOp::Complement, 5), Ok(-6));
+    equal(&rt, unary(UnOp::Not, 5), Ok(0));
     value_is_of_what_is_read::<Slot, Slot>();
     quotients_are_rounded();
 }
@@ -98,11 +99,11 @@ fn the_first_trap_is_that_of_the_left(rt: HostRuntime) {
     let left = trapped(&rt, rt.alloc());
     let right = element(&rt, rt.alloc(), 9);
     let code = binary(&rt, rt.alloc(), BinOp::Add, left, right);
-    assert_eq!(rt; eval(&CELLS, &code), Err(Trap::ZeroDivide));
+    equal(&rt, eval(&CELLS, &code), Err(Trap::ZeroDivide));
     let left = element(&rt, rt.alloc(), 9);
     let right = trapped(&rt, rt.alloc());
     let code = binary(&rt, rt.alloc(), BinOp::Add, left, right);
-    assert_eq!(rt; eval(&CELLS, &code), Err(Trap::Index));
+    equal(&rt, eval(&CELLS, &code), Err(Trap::Index));
     let copy = code.copy(rt.alloc()).expect(&rt, "memory");
-    assert_eq!(rt; eval(&CELLS, &copy), Err(Trap::Index));
+    equal(&rt, eval(&CELLS, &copy), Err(Trap::Index));
 }

@@ -1,5 +1,6 @@
 //! What recorded schedules are written as, and what bytes are read as.
 
+use crate::equal::equal;
 use cilk_log::{
     Act, Choice, Choices, Log, LogFault, one_list_of_stretches, one_text_each, program_of,
     read_log, write_log,
@@ -36,7 +37,7 @@ fn choices_are_written_line_by_line(rt: HostRuntime) {
         choices,
     };
     let text = written(&rt, rt.alloc(), &log);
-    assert_eq!(rt; text.as_slice(), RECORDED.as_bytes());
+    equal(&rt, text.as_slice(), RECORDED.as_bytes());
 }
 
 #[test]
@@ -59,7 +60,7 @@ fn steps_of_one_worker_are_written_in_one_line(rt: HostRuntime) {
         choices,
     };
     let text = written(&rt, rt.alloc(), &log);
-    assert_eq!(rt; text.as_slice(), NAMED.as_bytes());
+    equal(&rt, text.as_slice(), NAMED.as_bytes());
     assert!(rt; log.is_of("abc"));
     assert!(rt; !log.is_of("abc\n"));
     one_list_of_stretches();
@@ -77,7 +78,7 @@ fn what_is_read_is_written_again(rt: HostRuntime) {
     ] {
         let log = read_log(rt.alloc(), text.as_bytes()).expect(&rt, text);
         let again = written(&rt, rt.alloc(), &log);
-        assert_eq!(rt; again.as_slice(), text.as_bytes());
+        equal(&rt, again.as_slice(), text.as_bytes());
     }
 }
 
@@ -107,7 +108,7 @@ fn first_fault_from_the_top(rt: HostRuntime) {
             Err(fault) => format!(in rt.alloc(); "{fault}").expect(&rt, "memory"),
             Ok(_) => String::new(rt.alloc()),
         };
-        assert_eq!(rt; told.as_str(), fault);
+        equal(&rt, told.as_str(), fault);
     }
 }
 
@@ -118,10 +119,10 @@ fn choices_are_a_list(rt: HostRuntime) {
         worker: 2,
         act: Act::Steal(1),
     };
-    assert_eq!(rt; log.workers, 2);
-    assert_eq!(rt; log.choices.len(), 5);
-    assert_eq!(rt; log.choices.get(1), Some(second));
-    assert_eq!(rt; log.choices.get(5), None);
+    equal(&rt, log.workers, 2);
+    equal(&rt, log.choices.len(), 5);
+    equal(&rt, log.choices.get(1), Some(second));
+    equal(&rt, log.choices.get(5), None);
     one_text_each();
 }
 

@@ -4,6 +4,7 @@ ghost use Rattle.std.specs.Prelude.{◌≡◌};
 ghost use Rattle.cilk_frame.specs.Frames.{depth};
 
 use super::program;
+use crate::equal::equal;
 use cilk_frame::{
     Await, Body, Frame, Id, a_call_stands, a_start_stands, a_write_stands, an_action_stands,
     values_are_seen,
@@ -48,9 +49,9 @@ fn goes_on_and_ends(rt: HostRuntime) {
 }
 
 fn goes_on(rt: &impl Abort, frame: &mut Frame) {
-    assert_eq!(rt; frame.id(), Id::new(7));
-    assert_eq!(rt; frame.id().number(), 7);
-    assert_eq!(rt; frame.awaits(), None);
+    equal(rt, frame.id(), Id::new(7));
+    equal(rt, frame.id().number(), 7);
+    equal(rt, frame.awaits(), None);
     stands(rt, frame, 1, 0);
     assert!(rt; !frame.at_boundary());
     assert_eq!(rt; frame.cells(0).len(), 1);
@@ -66,8 +67,8 @@ fn stands(rt: &impl Abort, frame: &Frame, node: u32, cell: i32)
     ensures { depth frame.now ≡ 1 }
 {
     assert_eq!(rt; frame.depth(), 1);
-    assert_eq!(rt; frame.node(0), node);
-    assert_eq!(rt; frame.cells(0), [cell].as_slice());
+    equal(rt, frame.node(0), node);
+    equal(rt, frame.cells(0), [cell].as_slice());
 }
 
 #[test]
@@ -83,10 +84,10 @@ fn calls(rt: &impl Abort, loaded: &Loaded, frame: &mut Frame, awaits: Await)
     ensures { depth frame.new ≡ 3 }
 {
     call(rt, frame, body(rt, loaded, 1), &[6, -7], Some(awaits));
-    assert_eq!(rt; frame.awaits(), Some(awaits));
+    equal(rt, frame.awaits(), Some(awaits));
     call(rt, frame, body(rt, loaded, 0), &[], None);
     assert_eq!(rt; frame.depth(), 3);
-    assert_eq!(rt; frame.cells(1), [6, -7, 0, 0].as_slice());
+    equal(rt, frame.cells(1), [6, -7, 0, 0].as_slice());
     frame.jump(2);
     has_three(rt, frame);
 }
@@ -95,18 +96,18 @@ fn has_three(rt: &impl Abort, frame: &Frame)
     ensures { depth frame.now ≡ 3 }
 {
     assert_eq!(rt; frame.depth(), 3);
-    assert_eq!(rt; frame.node(0), 1);
-    assert_eq!(rt; frame.node(1), 3);
-    assert_eq!(rt; frame.node(2), 2);
+    equal(rt, frame.node(0), 1);
+    equal(rt, frame.node(1), 3);
+    equal(rt, frame.node(2), 2);
 }
 
 fn returns(rt: &impl Abort, frame: &mut Frame, awaits: Await)
     requires { depth frame.old ≡ 3 }
 {
-    assert_eq!(rt; frame.leave(), None);
-    assert_eq!(rt; frame.depth(), 2);
-    assert_eq!(rt; frame.leave(), Some(awaits));
-    assert_eq!(rt; frame.depth(), 1);
+    equal(rt, frame.leave(), None);
+    equal(rt, frame.depth(), 2);
+    equal(rt, frame.leave(), Some(awaits));
+    equal(rt, frame.depth(), 1);
 }
 
 #[test]

@@ -4,6 +4,7 @@ ghost use Rattle.std.specs.Prelude.{◌≡◌, None, length};
 ghost use Rattle.cilk_machine.specs.model.Hands.{IsWorker, hand_of, with_hand};
 
 use super::program;
+use crate::equal::equal;
 use cilk_frame::{Frame, Id};
 use cilk_machine::Loaded;
 use cilk_sched::{
@@ -47,7 +48,7 @@ fn push(
 {
     let frame = frame(rt, alloc, loaded, number);
     let back = spent(hands.push_bottom(worker, frame).err());
-    assert_eq!(rt; back, None);
+    equal(rt, back, None);
 }
 
 // The frame in the worker's hand is taken, and has this number.
@@ -56,7 +57,7 @@ fn takes(rt: &impl Abort, hands: &mut Hands, worker: u8, wanted: Option<usize>)
     ensures { hands.new ≡ with_hand hands.old worker None }
 {
     let taken = spent(hands.take(worker));
-    assert_eq!(rt; taken, wanted);
+    equal(rt, taken, wanted);
 }
 
 #[test]
@@ -65,7 +66,7 @@ fn hands_hold_one(rt: HostRuntime) {
     takes(&rt, &mut hands, 1, None);
     gives_one(&rt, rt.alloc(), &mut hands);
     takes(&rt, &mut hands, 1, Some(7));
-    assert_eq!(rt; number(hands.hand(1)), None);
+    equal(&rt, number(hands.hand(1)), None);
 }
 
 // Worker 1 has a frame in its hand then, and nothing else is anywhere.
@@ -82,9 +83,9 @@ fn gives_one(rt: &impl Abort, alloc: Global, hands: &mut Hands)
 fn has_one(rt: &impl Abort, hands: &Hands)
     requires { length hands.now ≡ 2 }
 {
-    assert_eq!(rt; number(hands.hand(1)), Some(7));
-    assert_eq!(rt; number(hands.hand(2)), None);
-    assert_eq!(rt; hands.len(1), 0);
+    equal(rt, number(hands.hand(1)), Some(7));
+    equal(rt, number(hands.hand(2)), None);
+    equal(rt, hands.len(1), 0);
 }
 
 #[test]
@@ -109,11 +110,11 @@ fn fill(rt: &impl Abort, alloc: Global, hands: &mut Hands)
 fn stand_in_order(rt: &impl Abort, hands: &Hands)
     requires { length hands.now ≡ 3 }
 {
-    assert_eq!(rt; hands.len(1), 0);
-    assert_eq!(rt; hands.len(2), 3);
-    assert_eq!(rt; hands.len(3), 0);
+    equal(rt, hands.len(1), 0);
+    equal(rt, hands.len(2), 3);
+    equal(rt, hands.len(3), 0);
     for (i, wanted) in [(0, Some(4)), (1, Some(5)), (2, Some(6)), (3, None)] {
-        assert_eq!(rt; number(hands.queued(2, i)), wanted);
+        equal(rt, number(hands.queued(2, i)), wanted);
     }
 }
 
@@ -125,7 +126,7 @@ fn leave_by_both_ends(rt: &impl Abort, hands: &mut Hands)
     pops(rt, hands, Some(5));
     pops(rt, hands, None);
     steals(rt, hands, None);
-    assert_eq!(rt; number(hands.hand(2)), None);
+    equal(rt, number(hands.hand(2)), None);
 }
 
 fn steals(rt: &impl Abort, hands: &mut Hands, wanted: Option<usize>)
@@ -133,7 +134,7 @@ fn steals(rt: &impl Abort, hands: &mut Hands, wanted: Option<usize>)
     ensures { length hands.new ≡ 3 }
 {
     let stolen = spent(hands.steal_top(2));
-    assert_eq!(rt; stolen, wanted);
+    equal(rt, stolen, wanted);
 }
 
 fn pops(rt: &impl Abort, hands: &mut Hands, wanted: Option<usize>)
@@ -141,7 +142,7 @@ fn pops(rt: &impl Abort, hands: &mut Hands, wanted: Option<usize>)
     ensures { length hands.new ≡ 3 }
 {
     let popped = spent(hands.pop_bottom(2));
-    assert_eq!(rt; popped, wanted);
+    equal(rt, popped, wanted);
 }
 
 #[test]
@@ -163,8 +164,8 @@ fn gives_the_last(rt: &impl Abort, alloc: Global, hands: &mut Hands)
 fn has_the_last(rt: &impl Abort, hands: &Hands)
     requires { length hands.now ≡ 255 }
 {
-    assert_eq!(rt; number(hands.hand(255)), Some(1));
-    assert_eq!(rt; number(hands.hand(254)), None);
+    equal(rt, number(hands.hand(255)), Some(1));
+    equal(rt, number(hands.hand(254)), None);
 }
 
 #[test]

@@ -4,6 +4,7 @@ ghost use Rattle.std.specs.Prelude.{◌≡◌, ◌<◌, None, length, true};
 ghost use Rattle.cilk_spawn.specs.Nodes.{node_at, is_live};
 
 use super::{is_word, program};
+use crate::equal::equal;
 use cilk_frame::{Area, BinOp, Slot};
 use cilk_machine::Loaded;
 use cilk_spawn::{
@@ -60,7 +61,7 @@ fn spawn(rt: &impl Abort, tree: &mut Tree, parent: &[u32], receiver: Receiver) {
     assert!(rt; tree.children(parent) < 9);
     let next = tree.next_id();
     let child = tree.add_child(parent, 5, receiver).expect(rt, "memory");
-    assert_eq!(rt; child, next);
+    equal(rt, child, next);
 }
 
 // The instance gives a value, and ends.
@@ -92,7 +93,7 @@ fn children_have_paths(rt: HostRuntime) {
 }
 
 fn bear_three(rt: &impl Abort, tree: &mut Tree) {
-    assert_eq!(rt; tree.next_id(), Id::new(1));
+    equal(rt, tree.next_id(), Id::new(1));
     spawn(rt, tree, &[], Receiver::Nothing);
     spawn(rt, tree, &[], adds(5));
     spawn(rt, tree, &[2], Receiver::Nothing);
@@ -108,14 +109,14 @@ fn are_found(rt: &impl Abort, tree: &Tree) {
         ([2, 1, 1].as_slice(), None),
         ([0].as_slice(), None),
     ] {
-        assert_eq!(rt; tree.find(path), id);
+        equal(rt, tree.find(path), id);
     }
 }
 
 fn are_named(rt: &impl Abort, tree: &Tree) {
     for path in [[].as_slice(), [2].as_slice(), [2, 1].as_slice()] {
         let named = tree.path_of(at(rt, tree, path)).expect(rt, "memory");
-        assert_eq!(rt; named.as_slice(), path);
+        equal(rt, named.as_slice(), path);
     }
 }
 
@@ -137,9 +138,9 @@ fn are_related(rt: &impl Abort, tree: &Tree) {
         ([2, 1].as_slice(), Some(Id::new(2)), 5, 0),
     ] {
         let id = at(rt, tree, path);
-        assert_eq!(rt; tree.parent(id), parent);
-        assert_eq!(rt; tree.procedure(id), procedure);
-        assert_eq!(rt; tree.children(id), children);
+        equal(rt, tree.parent(id), parent);
+        equal(rt, tree.procedure(id), procedure);
+        equal(rt, tree.children(id), children);
     }
 }
 
@@ -176,9 +177,9 @@ fn those_that_ended_are_found_too(rt: HostRuntime) {
 }
 
 fn end_both(rt: &impl Abort, tree: &mut Tree) {
-    assert_eq!(rt; tree.live(), 3);
+    equal(rt, tree.live(), 3);
     end(rt, tree, &[1], Ending::Returned, 4);
-    assert_eq!(rt; tree.live(), 2);
+    equal(rt, tree.live(), 2);
     assert!(rt; tree.has_live_child(at(rt, tree, &[])));
     end(rt, tree, &[2], Ending::Aborted, 5);
     assert!(rt; !tree.has_live_child(at(rt, tree, &[])));
@@ -186,10 +187,10 @@ fn end_both(rt: &impl Abort, tree: &mut Tree) {
 
 fn are_numbered(rt: &impl Abort, tree: &Tree) {
     for i in 0..3 {
-        assert_eq!(rt; tree.nth(i), Some(Id::new(i)));
+        equal(rt, tree.nth(i), Some(Id::new(i)));
     }
-    assert_eq!(rt; tree.nth(3), None);
-    assert_eq!(rt; tree.find(&[1]), Some(Id::new(1)));
+    equal(rt, tree.nth(3), None);
+    equal(rt, tree.find(&[1]), Some(Id::new(1)));
 }
 
 // A third child is born behind those that ended.
@@ -203,12 +204,12 @@ fn have_fates(rt: &impl Abort, tree: &mut Tree) {
     ] {
         has_fate(rt, tree, path, fate);
     }
-    assert_eq!(rt; tree.find(&[4]), None);
+    equal(rt, tree.find(&[4]), None);
 }
 
 fn has_fate(rt: &impl Abort, tree: &Tree, path: &[u32], fate: Fate) {
     let id = tree.find(path).expect(rt, "an instance");
-    assert_eq!(rt; tree.fate(id), fate);
+    equal(rt, tree.fate(id), fate);
 }
 
 #[test]
@@ -241,7 +242,7 @@ fn an_abort_marks_those_below(rt: HostRuntime) {
 // Of these paths those are marked of which it is said.
 fn are_marked(rt: &impl Abort, tree: &Tree, paths: &[(&[u32], bool)]) {
     for &(path, is_marked) in paths {
-        assert_eq!(rt; tree.is_aborted(at(rt, tree, path)), is_marked);
+        equal(rt, tree.is_aborted(at(rt, tree, path)), is_marked);
     }
 }
 
@@ -272,7 +273,7 @@ fn give_two(rt: &impl Abort, tree: &mut Tree) {
     give(rt, tree, &[2], -7);
     give(rt, tree, &[1], 9);
     let root = at(rt, tree, &[]);
-    assert_eq!(rt; tree.waiting(root), 2);
+    equal(rt, tree.waiting(root), 2);
     assert!(rt; !tree.is_synched(root));
 }
 
@@ -297,8 +298,8 @@ fn is_delivery(
 ) {
     match (delivery, wanted) {
         (Some(delivery), Some((child, value, receiver))) => {
-            assert_eq!(rt; delivery.child.number(), child);
-            assert_eq!(rt; delivery.value, value);
+            equal(rt, delivery.child.number(), child);
+            equal(rt, delivery.value, value);
             takes(rt, alloc, &delivery.receiver, receiver);
         }
         (delivery, wanted) => assert!(rt; delivery.is_none() && wanted.is_none()),
@@ -350,18 +351,18 @@ fn unpark_root(rt: &impl Abort, tree: &mut Tree) {
     let back = tree.unpark(root).expect(rt, "a frame");
     let id = back.id();
     back.finish();
-    assert_eq!(rt; id, Id::new(0));
+    equal(rt, id, Id::new(0));
     assert!(rt; tree.parked(at(rt, tree, &[])).is_none());
 }
 
 #[test]
 fn paths_are_lists(rt: HostRuntime) {
-    assert_eq!(rt; Path::root(rt.alloc()).as_slice(), [].as_slice());
+    equal(&rt, Path::root(rt.alloc()).as_slice(), [].as_slice());
     let numbers = Vec::from_slice(rt.alloc(), &[3, 1]).expect(&rt, "memory");
     let path = Path::new(numbers);
-    assert_eq!(rt; path.as_slice(), [3, 1].as_slice());
+    equal(&rt, path.as_slice(), [3, 1].as_slice());
     let copy = path.copy(rt.alloc()).expect(&rt, "memory");
-    assert_eq!(rt; copy.as_slice(), [3, 1].as_slice());
+    equal(&rt, copy.as_slice(), [3, 1].as_slice());
 }
 
 #[test]

@@ -1,6 +1,7 @@
 //! Schedules that are known by hand: what comes of each choice, and what is refused, which changes nothing.
 
 use super::{is_text, program};
+use crate::equal::equal;
 use cilk_frame::Id;
 use cilk_machine::Act::{Pop, Steal, Step};
 use cilk_machine::Refusal::{Busy, DequeEmpty, HandEmpty, NoWorker, Over, Waiting};
@@ -214,9 +215,9 @@ fn play(rt: &impl Abort, machine: &mut Machine, rows: &[Row]) {
         let before = machine.choices();
         assert!(rt; before < 1000);
         let made = machine.make(Choice { worker, act });
-        assert_eq!(rt; told(&made), wanted);
+        equal(rt, told(&made), wanted);
         let behind = if wanted.is_ok() { before + 1 } else { before };
-        assert_eq!(rt; machine.choices(), behind);
+        equal(rt, machine.choices(), behind);
     }
 }
 
@@ -268,11 +269,11 @@ fn counts(rt: &impl Abort, alloc: Global, parts: &[(&[Row], i32)], closing: &str
     let mut machine = machine(rt, alloc, COUNTING, 2);
     for &(rows, g) in parts {
         play(rt, &mut machine, rows);
-        assert_eq!(rt; machine.global("g", 0), Some(g));
+        equal(rt, machine.global("g", 0), Some(g));
     }
-    assert_eq!(rt; machine.choices(), 12);
-    assert_eq!(rt; machine.global("g", 1), None);
-    assert_eq!(rt; machine.global("inc", 0), None);
+    equal(rt, machine.choices(), 12);
+    equal(rt, machine.global("g", 1), None);
+    equal(rt, machine.global("inc", 0), None);
     closes(rt, alloc, &machine, closing);
 }
 
@@ -295,7 +296,7 @@ fn variables_of_the_top_level_have_cells(rt: HostRuntime) {
         ("main", 0, None),
         ("d", 0, None),
     ] {
-        assert_eq!(rt; machine.global(name, index), value);
+        equal(&rt, machine.global(name, index), value);
     }
 }
 
@@ -314,7 +315,7 @@ fn instances_go_by_their_numbers(rt: HostRuntime) {
         (Step, Ok(Did::Acted(Id::new(0), 5))),
     ] {
         assert!(rt; machine.choices() < 9);
-        assert_eq!(rt; machine.advance(Choice { worker: 1, act }), wanted);
+        equal(&rt, machine.advance(Choice { worker: 1, act }), wanted);
     }
 }
 

@@ -1,5 +1,6 @@
 //! Readers and writers that break.
 
+use crate::equal::equal;
 use cilk_commands::print_text;
 use std::alloc::Global;
 use std::io;
@@ -62,9 +63,9 @@ impl Write for BrokenWriter {
 
 // The status, the output and the errors are those that are wanted.
 fn has_written(rt: &impl Abort, status: (u8, u8), out: (&[u8], &[u8]), err: (&[u8], &[u8])) {
-    assert_eq!(rt; status.0, status.1);
-    assert_eq!(rt; out.0, out.1);
-    assert_eq!(rt; err.0, err.1);
+    equal(rt, status.0, status.1);
+    equal(rt, out.0, out.1);
+    equal(rt, err.0, err.1);
 }
 
 #[test]

@@ -1,6 +1,7 @@
 //! A machine that keeps a record of each choice goes back, choice by choice, to what it was.
 
 use super::{is_word, program};
+use crate::equal::equal;
 use cilk_machine::{Act, Choice, Machine};
 use cilk_view::What;
 use std::alloc::Global;
@@ -73,7 +74,7 @@ fn undoing(rt: &impl Abort, alloc: Global) -> Machine {
 // Whether there was a choice to take back is as it is wanted.
 fn undoes(rt: &impl Abort, machine: &mut Machine, wanted: bool) {
     let undone = machine.undo().expect(rt, "memory");
-    assert_eq!(rt; undone, wanted);
+    equal(rt, undone, wanted);
 }
 
 #[test]
@@ -109,5 +110,5 @@ fn forgets(rt: &impl Abort, machine: &mut Machine) {
     assert!(rt; makes(machine, 0));
     undoes(rt, machine, true);
     undoes(rt, machine, false);
-    assert_eq!(rt; machine.choices(), 1);
+    equal(rt, machine.choices(), 1);
 }

@@ -3,6 +3,7 @@
 use super::programs::{ABORTED, LOOKING};
 use super::texts::{loaded, log_of};
 use super::{page, pages, tell_refused};
+use crate::equal::equal;
 use cilk_debug::{Act, Choice, Choices, DebugFault, Debugger, Log, ViewFault, What};
 use cilk_spawn::Path;
 use std::alloc::Global;
@@ -59,7 +60,7 @@ fn told_whole(rt: &(impl Abort + Print), alloc: Global, debugger: &Debugger) -> 
 }
 
 fn is_as_before(rt: &(impl Abort + Print), alloc: Global, debugger: &Debugger, before: &str) {
-    assert_eq!(rt; told_whole(rt, alloc, debugger).as_str(), before);
+    equal(rt, told_whole(rt, alloc, debugger).as_str(), before);
 }
 
 fn steps(rt: &(impl Abort + Print), alloc: Global, debugger: &mut Debugger) {
@@ -128,17 +129,21 @@ fn a_debugger_moves(rt: HostRuntime) {
         let now = told(&rt, rt.alloc(), &debugger);
         there.push(now).ok().expect(&rt, "room");
         steps(&rt, rt.alloc(), &mut debugger);
-        assert_eq!(rt; debugger.position(), k);
+        equal(&rt, debugger.position(), k);
     }
     for wanted in there.iter().rev() {
         goes_back(&rt, rt.alloc(), &mut debugger);
-        assert_eq!(rt; told(&rt, rt.alloc(), &debugger).as_str(), wanted.as_str());
+        equal(
+            &rt,
+            told(&rt, rt.alloc(), &debugger).as_str(),
+            wanted.as_str(),
+        );
     }
 }
 
 fn shows(rt: &(impl Abort + Print), debugger: &Debugger, what: &What, wanted: &str) {
     let text = view(rt, debugger, what);
-    assert_eq!(rt; text.as_str(), wanted);
+    equal(rt, text.as_str(), wanted);
 }
 
 // What is seen behind choice 12, where `/2` is marked and has not ended.
@@ -158,7 +163,7 @@ fn shows_choice_12(rt: &(impl Abort + Print), alloc: Global, debugger: &Debugger
     shows(rt, debugger, &What::Globals, "done = 1\n");
     let frame = root_frame(rt, alloc, debugger);
     let wanted = "main line 15\n    best = 1\ntake line 12\n    v = 1\n";
-    assert_eq!(rt; frame.as_str(), wanted);
+    equal(rt, frame.as_str(), wanted);
 }
 
 #[test]
@@ -181,13 +186,13 @@ fn a_debugger_goes_to_breakpoints(rt: HostRuntime) {
     }
     for (position, wanted) in [(2, true), (5, true), (6, true), (8, true), (16, false)] {
         let found = goes_to_next(&rt, rt.alloc(), &mut debugger);
-        assert_eq!(rt; found, wanted);
-        assert_eq!(rt; debugger.position(), position);
+        equal(&rt, found, wanted);
+        equal(&rt, debugger.position(), position);
     }
     for (position, wanted) in [(8, true), (6, true), (5, true), (2, true), (0, false)] {
         let found = goes_to_previous(&rt, rt.alloc(), &mut debugger);
-        assert_eq!(rt; found, wanted);
-        assert_eq!(rt; debugger.position(), position);
+        equal(&rt, found, wanted);
+        equal(&rt, debugger.position(), position);
     }
 }
 
@@ -226,8 +231,8 @@ fn a_debugger_goes_by_checkpoints(rt: HostRuntime) {
         (2001, "main line 4\n    i = 1000\n"),
     ] {
         goes(&rt, rt.alloc(), &mut debugger, k);
-        assert_eq!(rt; debugger.position(), k);
+        equal(&rt, debugger.position(), k);
         let frame = root_frame(&rt, rt.alloc(), &debugger);
-        assert_eq!(rt; frame.as_str(), wanted);
+        equal(&rt, frame.as_str(), wanted);
     }
 }

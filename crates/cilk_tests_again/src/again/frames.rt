@@ -2,6 +2,7 @@
 
 use super::texts::loaded;
 use super::{page, tell_refused};
+use crate::equal::equal;
 use cilk_frame::{Activation, Await, Frame, FrameImage, Id};
 use cilk_load::{Body, Loaded};
 use std::alloc::Global;
@@ -43,7 +44,7 @@ fn enters(rt: &(impl Abort + Print), alloc: Global, frame: &mut Frame, body: &Bo
         rt;
         frame.enter(body, &[6, -7], awaits),
         _,
-        assert_eq!(rt; told(rt, alloc, frame).as_str(), before.as_str())
+        equal(rt, told(rt, alloc, frame).as_str(), before.as_str())
     );
 }
 
@@ -64,7 +65,7 @@ fn enters_again(rt: &(impl Abort + Print), alloc: Global, frame: &mut Frame, lef
     let before = told(rt, alloc, frame);
     if let Err(left) = frame.enter_again(left) {
         tell_refused(rt, "frame.enter_again()");
-        assert_eq!(rt; told(rt, alloc, frame).as_str(), before.as_str());
+        equal(rt, told(rt, alloc, frame).as_str(), before.as_str());
         frame.enter_again(left).ok().expect(rt, "memory");
     }
 }
@@ -109,10 +110,10 @@ fn a_frame_grows(rt: HostRuntime) {
     let whole = told(&rt, rt.alloc(), &frame);
     let image = image_of(&rt, &frame);
     let copy = restored(&rt, &image);
-    assert_eq!(rt; told(&rt, rt.alloc(), &copy).as_str(), whole.as_str());
+    equal(&rt, told(&rt, rt.alloc(), &copy).as_str(), whole.as_str());
     let mut other = started(&rt, rt.alloc(), &loaded, 7);
     go_over(&rt, rt.alloc(), &mut frame, &mut other);
-    assert_eq!(rt; other.awaits(), Some(Await { n: 1, index: 3 }));
+    equal(&rt, other.awaits(), Some(Await { n: 1, index: 3 }));
     go_over(&rt, rt.alloc(), &mut other, &mut frame);
-    assert_eq!(rt; told(&rt, rt.alloc(), &frame).as_str(), whole.as_str());
+    equal(&rt, told(&rt, rt.alloc(), &frame).as_str(), whole.as_str());
 }

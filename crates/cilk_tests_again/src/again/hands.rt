@@ -5,6 +5,7 @@ ghost use Rattle.std.specs.Prelude.{◌≡◌, length};
 use super::frames::{self, boxed, started, with_bodies};
 use super::texts::loaded;
 use super::{page, tell_refused};
+use crate::equal::equal;
 use cilk_frame::{Activation, Frame};
 use cilk_load::Loaded;
 use cilk_sched::{Hands, HandsImage};
@@ -47,7 +48,7 @@ fn push(rt: &(impl Abort + Print), alloc: Global, hands: &mut Hands, frame: Fram
     let before = told(rt, alloc, hands);
     if let Err(frame) = hands.push_bottom(2, frame) {
         tell_refused(rt, "hands.push_bottom()");
-        assert_eq!(rt; told(rt, alloc, hands).as_str(), before.as_str());
+        equal(rt, told(rt, alloc, hands).as_str(), before.as_str());
         hands.push_bottom(2, frame).ok().expect(rt, "memory");
     }
 }
@@ -59,7 +60,7 @@ fn push_top(rt: &(impl Abort + Print), alloc: Global, hands: &mut Hands, frame: 
     let before = told(rt, alloc, hands);
     if let Err(frame) = hands.push_top(3, frame) {
         tell_refused(rt, "hands.push_top()");
-        assert_eq!(rt; told(rt, alloc, hands).as_str(), before.as_str());
+        equal(rt, told(rt, alloc, hands).as_str(), before.as_str());
         hands.push_top(3, frame).ok().expect(rt, "memory");
     }
 }
@@ -100,7 +101,7 @@ fn enters_again(rt: &(impl Abort + Print), alloc: Global, hands: &mut Hands, lef
     assert!(rt; frame.depth() < Frame::DEPTH);
     if let Err(left) = hands.enter_again(3, left) {
         tell_refused(rt, "hands.enter_again()");
-        assert_eq!(rt; told(rt, alloc, hands).as_str(), before.as_str());
+        equal(rt, told(rt, alloc, hands).as_str(), before.as_str());
         hands.enter_again(3, left).ok().expect(rt, "memory");
     }
 }
@@ -124,7 +125,7 @@ fn is_made_anew(rt: &(impl Abort + Print), alloc: Global, hands: &Hands)
     let image = image_of(rt, hands);
     let copy = restored(rt, &image);
     let whole = told(rt, alloc, hands);
-    assert_eq!(rt; told(rt, alloc, &copy).as_str(), whole.as_str());
+    equal(rt, told(rt, alloc, &copy).as_str(), whole.as_str());
 }
 
 // Worker 2 has a frame in its hand and five in its deque, and worker 3 one in its hand and five in its deque.
@@ -157,8 +158,8 @@ fn deques_grow(rt: HostRuntime) {
     let loaded = loaded(&rt, rt.alloc(), frames::TEXT);
     let hands = filled(&rt, rt.alloc(), &loaded);
     is_made_anew(&rt, rt.alloc(), &hands);
-    assert_eq!(rt; number(hands.queued(2, 4)), Some(4));
-    assert_eq!(rt; number(hands.queued(3, 4)), Some(0));
+    equal(&rt, number(hands.queued(2, 4)), Some(4));
+    equal(&rt, number(hands.queued(3, 4)), Some(0));
 }
 
 #[test]
@@ -169,6 +170,6 @@ fn frames_in_hands_enter_again(rt: HostRuntime) {
         let body = left(&rt, &mut hands);
         enters_again(&rt, rt.alloc(), &mut hands, body);
     }
-    assert_eq!(rt; depth(hands.hand(2)), Some(1));
-    assert_eq!(rt; depth(hands.hand(3)), Some(10));
+    equal(&rt, depth(hands.hand(2)), Some(1));
+    equal(&rt, depth(hands.hand(3)), Some(10));
 }

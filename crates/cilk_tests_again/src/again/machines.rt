@@ -8,6 +8,7 @@ use super::programs::{
 use super::script::choice_of;
 use super::texts::loaded;
 use super::{page, pages, tell_refused};
+use crate::equal::equal;
 use cilk_debug::{ViewFault, What};
 use cilk_load::{Loaded, Memory};
 use cilk_run::{Choice, End, Event, Machine, MachineFault, Refusal, ending};
@@ -149,7 +150,7 @@ pub fn closing(
 pub fn closes(rt: &(impl Abort + Print), alloc: Global, machine: &Machine, wanted: &str) {
     let end = end_of(rt, machine);
     let text = closing(rt, alloc, machine.output(), &end, machine.choices());
-    assert_eq!(rt; text.as_slice(), wanted.as_bytes());
+    equal(rt, text.as_slice(), wanted.as_bytes());
 }
 
 fn is_private(rt: &(impl Abort + Print), machine: &Machine, worker: u8) -> bool {
@@ -167,8 +168,8 @@ fn made(
     let records = machine.records();
     assert!(rt; machine.choices() < 1000);
     again!(rt; machine.make(choice), Refusal::Memory, {
-        assert_eq!(rt; seen(rt, alloc, machine).as_str(), before);
-        assert_eq!(rt; machine.records(), records);
+        equal(rt, seen(rt, alloc, machine).as_str(), before);
+        equal(rt, machine.records(), records);
     })
 }
 
@@ -191,8 +192,8 @@ fn makes(
 fn undoes(rt: &(impl Abort + Print), alloc: Global, machine: &mut Machine, before: &str) -> bool {
     let records = machine.records();
     again!(rt; machine.undo(), _, {
-        assert_eq!(rt; seen(rt, alloc, machine).as_str(), before);
-        assert_eq!(rt; machine.records(), records);
+        equal(rt, seen(rt, alloc, machine).as_str(), before);
+        equal(rt, machine.records(), records);
     })
 }
 
@@ -201,9 +202,9 @@ fn goes_back(rt: &(impl Abort + Print), alloc: Global, machine: &mut Machine, be
     for wanted in before.iter().rev() {
         let now = seen(rt, alloc, machine);
         assert!(rt; undoes(rt, alloc, machine, now.as_str()));
-        assert_eq!(rt; seen(rt, alloc, machine).as_str(), wanted.as_str());
+        equal(rt, seen(rt, alloc, machine).as_str(), wanted.as_str());
     }
-    assert_eq!(rt; machine.records(), 0);
+    equal(rt, machine.records(), 0);
 }
 
 fn program_of(rt: &(impl Abort + Print), machine: &Machine) -> Loaded
@@ -239,14 +240,14 @@ fn copy_of(rt: &(impl Abort + Print), alloc: Global, machine: &Machine) -> Machi
 
 fn has_checkpoint(rt: &(impl Abort + Print), machine: &Machine) {
     let checkpoint = again!(rt; machine.checkpoint(), _);
-    assert_eq!(rt; checkpoint.choices(), machine.choices());
+    equal(rt, checkpoint.choices(), machine.choices());
 }
 
 // A machine that is made of an image tells the same.
 fn is_made_anew(rt: &(impl Abort + Print), alloc: Global, machine: &Machine) {
     let whole = seen(rt, alloc, machine);
     let copy = copy_of(rt, alloc, machine);
-    assert_eq!(rt; seen(rt, alloc, &copy).as_str(), whole.as_str());
+    equal(rt, seen(rt, alloc, &copy).as_str(), whole.as_str());
     has_checkpoint(rt, machine);
 }
 
@@ -269,7 +270,7 @@ fn machines_make_choices(rt: HostRuntime) {
             let now = seen(&rt, rt.alloc(), &plain);
             let event = makes(&rt, rt.alloc(), &mut plain, choice, now.as_str());
             let other = makes(&rt, rt.alloc(), &mut keeping, choice, now.as_str());
-            assert_eq!(rt; other.as_str(), event.as_str());
+            equal(&rt, other.as_str(), event.as_str());
             before.push(now).ok().expect(&rt, "room");
         }
         closes(&rt, rt.alloc(), &plain, closing);
@@ -294,8 +295,12 @@ fn a_step_waits(rt: HostRuntime) {
     let before = seen(&rt, rt.alloc(), &machine);
     assert!(rt; machine.choices() < 1000);
     let made = machine.make(choice_of(&rt, "2s"));
-    assert_eq!(rt; made.err(), Some(Refusal::Waiting));
-    assert_eq!(rt; seen(&rt, rt.alloc(), &machine).as_str(), before.as_str());
+    equal(&rt, made.err(), Some(Refusal::Waiting));
+    equal(
+        &rt,
+        seen(&rt, rt.alloc(), &machine).as_str(),
+        before.as_str(),
+    );
     plays(&rt, rt.alloc(), &mut machine, "1s 1s 2s");
 }
 
@@ -309,7 +314,7 @@ fn settles(rt: &(impl Abort + Print), alloc: Global, machine: &mut Machine, work
         rt;
         machine.settle(worker, &peek, peek.value()),
         Refusal::Memory,
-        assert_eq!(rt; seen(rt, alloc, machine).as_str(), before.as_str())
+        equal(rt, seen(rt, alloc, machine).as_str(), before.as_str())
     );
 }
 
@@ -329,5 +334,5 @@ fn steps_are_taken_by_their_values(rt: HostRuntime) {
     counts_by_values(&rt, rt.alloc(), &mut plain);
     let mut keeping = opened_with_undo(&rt, rt.alloc(), COUNTING, 2);
     counts_by_values(&rt, rt.alloc(), &mut keeping);
-    assert_eq!(rt; keeping.records(), 12);
+    equal(&rt, keeping.records(), 12);
 }

@@ -5,6 +5,7 @@ use super::programs::{ABORTED, COUNTING, FIBONACCI, LOOKING};
 use super::script::choice_of;
 use super::tell_refused;
 use super::texts::{loaded, log_of};
+use crate::equal::equal;
 use cilk_log_replay::{Log, ReplayFault, play_all};
 use cilk_run::{
     Choice, Glimpse, Locked, Machine, MachineFault, Open, Proposal, Refusal, Run, RunFault,
@@ -24,7 +25,7 @@ fn told(rt: &(impl Abort + Print), alloc: Global, locked: &Locked) -> String {
 }
 
 fn is_as_before(rt: &(impl Abort + Print), alloc: Global, locked: &Locked, before: &str) {
-    assert_eq!(rt; told(rt, alloc, locked).as_str(), before);
+    equal(rt, told(rt, alloc, locked).as_str(), before);
 }
 
 fn glimpse(rt: &(impl Abort + Print), locked: &Locked, worker: u8) -> Option<Glimpse> {
@@ -80,7 +81,7 @@ fn plays(rt: &(impl Abort + Print), alloc: Global, locked: &mut Locked, script: 
         } else {
             makes(rt, alloc, locked, choice);
         }
-        assert_eq!(rt; locked.history().last().copied(), Some(choice));
+        equal(rt, locked.history().last().copied(), Some(choice));
     }
 }
 
@@ -94,7 +95,7 @@ fn a_history_grows(rt: HostRuntime) {
         &mut locked,
         "1s 2t1 2s 1s 2s 1s 2s 1s 2s 2p 2s 2s",
     );
-    assert_eq!(rt; locked.history().len(), 12);
+    equal(&rt, locked.history().len(), 12);
     closes(&rt, rt.alloc(), locked.machine(), "main returned 1\n");
 }
 
@@ -106,9 +107,9 @@ fn a_value_that_changed_is_stale(rt: HostRuntime) {
     let seen = proposal(&rt, &locked, 1);
     plays(&rt, rt.alloc(), &mut locked, "2s 2s 2s");
     let before = told(&rt, rt.alloc(), &locked);
-    assert_eq!(rt; locked.commit(seen).err(), Some(Refusal::Stale));
+    equal(&rt, locked.commit(seen).err(), Some(Refusal::Stale));
     is_as_before(&rt, rt.alloc(), &locked, before.as_str());
-    assert_eq!(rt; locked.history().len(), 6);
+    equal(&rt, locked.history().len(), 6);
     commits(&rt, rt.alloc(), &mut locked, 1);
     commits(&rt, rt.alloc(), &mut locked, 1);
     plays(&rt, rt.alloc(), &mut locked, "1s 2p 2s 2s");
@@ -140,6 +141,6 @@ fn workers_run(rt: HostRuntime) {
         let run = ran(&rt, rt.alloc(), workers);
         let choices = run.log.choices.len() as u64;
         let text = closing(&rt, rt.alloc(), run.output.as_slice(), &run.end, choices);
-        assert_eq!(rt; text.as_slice(), "main returned 55\n".as_bytes());
+        equal(&rt, text.as_slice(), "main returned 55\n".as_bytes());
     }
 }

@@ -3,6 +3,7 @@
 use super::debuggers::{opened, told};
 use super::programs::PRODUCT;
 use super::tell_refused;
+use crate::equal::equal;
 use cilk_debug::{Debugger, SessionFault};
 use std::alloc::Global;
 use std::process::Abort;
@@ -46,7 +47,7 @@ fn session(
         Ok(()) => true,
         Err(fault) => {
             tell_refused(rt, "debugger.session()");
-            assert_eq!(rt; fault, SessionFault::Memory);
+            equal(rt, fault, SessionFault::Memory);
             false
         }
     }
@@ -72,7 +73,7 @@ fn asks(
         assert!(rt; out.is_empty());
         let mut rest = "where";
         if debugger.position() == at {
-            assert_eq!(rt; told(rt, alloc, debugger).as_str(), before.as_str());
+            equal(rt, told(rt, alloc, debugger).as_str(), before.as_str());
             rest = line;
         }
         assert!(rt; session(rt, debugger, rest, &mut out));
@@ -86,7 +87,7 @@ fn a_session_answers(rt: HostRuntime) {
     for (line, wanted) in ASKED {
         asks(&rt, rt.alloc(), &mut debugger, line, wanted);
     }
-    assert_eq!(rt; debugger.position(), 0);
+    equal(&rt, debugger.position(), 0);
 }
 
 // What is asked at once. Each line, asked again, has the same answer.
@@ -143,5 +144,5 @@ fn a_session_goes_on(rt: HostRuntime) {
             assert!(rt; session(&rt, &mut debugger, line, &mut out));
         }
     }
-    assert_eq!(rt; answered(&rt, &debugger, out.as_slice()), LINES.len());
+    equal(&rt, answered(&rt, &debugger, out.as_slice()), LINES.len());
 }

@@ -2,6 +2,7 @@
 
 use super::programs::{FIBONACCI, FIBONACCI_CANONICAL};
 use super::{page, tell_refused};
+use crate::equal::equal;
 use cilk_check::{CheckFault, Checked, check};
 use cilk_commands::{Failure, ready_of};
 use cilk_debug::{Choices, Log, LogFault, read_log, write_log};
@@ -25,7 +26,7 @@ fn checked(rt: &(impl Abort + Print), alloc: Global, text: &str) -> Checked {
     match check(alloc, program) {
         Ok(checked) => checked,
         Err(fault) => {
-            assert_eq!(rt; fault, CheckFault::Memory);
+            equal(rt, fault, CheckFault::Memory);
             tell_refused(rt, "check()");
             let program = read(alloc, text).ok().expect(rt, "a program");
             check(alloc, program).ok().expect(rt, "a checked program")
@@ -68,15 +69,15 @@ fn count_of(rt: &(impl Abort + Print), alloc: Global, text: &str) -> u32 {
 #[test]
 fn a_text_has_its_tables(rt: HostRuntime) {
     let list = token_list(&rt, rt.alloc(), FIBONACCI);
-    assert_eq!(rt; list.len(), 95);
+    equal(&rt, list.len(), 95);
     let checked = checked(&rt, rt.alloc(), FIBONACCI);
     let text = printed(&rt, rt.alloc(), &checked);
-    assert_eq!(rt; text.as_str(), FIBONACCI_CANONICAL);
-    assert_eq!(rt; count_of(&rt, rt.alloc(), FIBONACCI), 15);
+    equal(&rt, text.as_str(), FIBONACCI_CANONICAL);
+    equal(&rt, count_of(&rt, rt.alloc(), FIBONACCI), 15);
     let ready = ready(&rt, rt.alloc(), FIBONACCI);
     let copy = copy_of(&rt, &ready);
-    assert_eq!(rt; copy.count(), 15);
-    assert_eq!(rt; text_of(&rt, &copy).as_str(), FIBONACCI_CANONICAL);
+    equal(&rt, copy.count(), 15);
+    equal(&rt, text_of(&rt, &copy).as_str(), FIBONACCI_CANONICAL);
 }
 
 fn told(rt: &(impl Abort + Print), alloc: Global, choices: &Choices) -> String {
@@ -94,7 +95,7 @@ fn put_again(rt: &(impl Abort + Print), alloc: Global, all: &Choices) -> Choices
             rt;
             choices.push(*choice),
             _,
-            assert_eq!(rt; told(rt, alloc, &choices).as_str(), before.as_str())
+            equal(rt, told(rt, alloc, &choices).as_str(), before.as_str())
         );
     }
     choices
@@ -114,6 +115,6 @@ fn a_log_is_read_and_written(rt: HostRuntime) {
             choices: put_again(&rt, rt.alloc(), &log.choices),
         };
         let written = written(&rt, rt.alloc(), &log);
-        assert_eq!(rt; written.as_slice(), text.as_bytes());
+        equal(&rt, written.as_slice(), text.as_bytes());
     }
 }

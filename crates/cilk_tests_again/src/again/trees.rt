@@ -4,6 +4,7 @@ ghost use Rattle.std.specs.Prelude.{◌≡◌, ◌<◌, length, true};
 ghost use Rattle.cilk_spawn.specs.Nodes.{node_at, is_live};
 
 use super::{page, tell_refused};
+use crate::equal::equal;
 use cilk_spawn::{Arguments, Delivery, Fate, Id, LivingImage, Path, Receiver, Tree, TreeImage};
 use std::alloc::Global;
 use std::process::Abort;
@@ -44,7 +45,7 @@ fn put_place(rt: &(impl Abort + Print), text: &mut String, tree: &Tree, id: Id)
     requires { id < length tree.now.nodes }
 {
     let path = path_of(rt, tree, id);
-    assert_eq!(rt; tree.find(path.as_slice()), Some(id));
+    equal(rt, tree.find(path.as_slice()), Some(id));
     let parent = tree.parent(id);
     let procedure = tree.procedure(id);
     let children = tree.children(id);
@@ -94,9 +95,9 @@ pub fn spawns(rt: &(impl Abort + Print), alloc: Global, tree: &mut Tree, path: &
         rt;
         tree.add_child(parent, 5, calls(rt, alloc, n)),
         _,
-        assert_eq!(rt; told(rt, alloc, tree).as_str(), before.as_str())
+        equal(rt, told(rt, alloc, tree).as_str(), before.as_str())
     );
-    assert_eq!(rt; child, next);
+    equal(rt, child, next);
 }
 
 pub fn delivers(
@@ -113,7 +114,7 @@ pub fn delivers(
         rt;
         tree.deliver(child, value),
         _,
-        assert_eq!(rt; told(rt, alloc, tree).as_str(), before.as_str())
+        equal(rt, told(rt, alloc, tree).as_str(), before.as_str())
     );
 }
 
@@ -133,7 +134,7 @@ fn first_is_copied(rt: &(impl Abort + Print), alloc: Global, tree: &Tree) {
     let first = first.expect(rt, "a delivery");
     let copy = copy_of(rt, first);
     let text = delivery_told(rt, alloc, &copy);
-    assert_eq!(rt; text.as_str(), delivery_told(rt, alloc, first).as_str());
+    equal(rt, text.as_str(), delivery_told(rt, alloc, first).as_str());
 }
 
 fn path_copied(rt: &(impl Abort + Print), alloc: Global, path: &Path) -> Path {
@@ -143,7 +144,7 @@ fn path_copied(rt: &(impl Abort + Print), alloc: Global, path: &Path) -> Path {
 fn path_is_copied(rt: &(impl Abort + Print), alloc: Global, tree: &Tree, path: &[u32]) {
     let told = path_of(rt, tree, at(rt, tree, path));
     let copy = path_copied(rt, alloc, &told);
-    assert_eq!(rt; copy.as_slice(), path);
+    equal(rt, copy.as_slice(), path);
 }
 
 fn image_of(rt: &(impl Abort + Print), tree: &Tree) -> TreeImage
@@ -174,7 +175,7 @@ fn living_image_of(rt: &(impl Abort + Print), tree: &Tree) -> LivingImage {
 fn is_made_anew(rt: &(impl Abort + Print), alloc: Global, tree: &Tree) {
     let copy = tight(rt, tree);
     let whole = told(rt, alloc, tree);
-    assert_eq!(rt; told(rt, alloc, &copy).as_str(), whole.as_str());
+    equal(rt, told(rt, alloc, &copy).as_str(), whole.as_str());
 }
 
 pub fn opened(rt: &(impl Abort + Print), alloc: Global) -> Tree {
@@ -195,6 +196,6 @@ fn a_tree_grows(rt: HostRuntime) {
     path_is_copied(&rt, rt.alloc(), &tree, &[5, 1]);
     is_made_anew(&rt, rt.alloc(), &tree);
     drop(living_image_of(&rt, &tree));
-    assert_eq!(rt; tree.live(), 11);
-    assert_eq!(rt; tree.waiting(at(&rt, &tree, &[])), 5);
+    equal(&rt, tree.live(), 11);
+    equal(&rt, tree.waiting(at(&rt, &tree, &[])), 5);
 }

@@ -1,6 +1,7 @@
 //! What a debugger's moves cost, by the positions.
 
 use super::{debugger, told};
+use crate::equal::equal;
 use cilk_debug::{Debugger, What};
 use cilk_spawn::Path;
 use std::alloc::Global;
@@ -35,8 +36,8 @@ fn works(rt: &impl Abort, alloc: Global, debugger: &mut Debugger, wanted: &[(Mov
             Move::Back => debugger.back(),
             Move::Go(k) => debugger.go(*k),
         };
-        assert_eq!(rt; told(rt, alloc, answer).as_str(), "ok");
-        assert_eq!(rt; debugger.work(), *work);
+        equal(rt, told(rt, alloc, answer).as_str(), "ok");
+        equal(rt, debugger.work(), *work);
     }
 }
 
@@ -44,14 +45,14 @@ fn stands_in_main(rt: &impl Abort, alloc: Global, debugger: &Debugger, wanted: &
     let frame = debugger
         .view(&What::Frame(Path::root(alloc)))
         .expect(rt, wanted);
-    assert_eq!(rt; frame.as_str(), wanted);
+    equal(rt, frame.as_str(), wanted);
 }
 
 #[test]
 fn each_move_is_made_from_the_nearest_checkpoint(rt: HostRuntime) {
     let recorded = steps(&rt, rt.alloc(), 2500);
     let mut debugger = debugger(&rt, rt.alloc(), COUNTING, recorded.as_str());
-    assert_eq!(rt; debugger.work(), 0);
+    equal(&rt, debugger.work(), 0);
     let to_999 = [
         (Move::Go(2500), 500),
         (Move::Back, 501),
@@ -89,19 +90,19 @@ fn a_refused_move_is_no_work(rt: HostRuntime) {
     let recorded = steps(&rt, rt.alloc(), 10);
     let mut debugger = debugger(&rt, rt.alloc(), COUNTING, recorded.as_str());
     let back = debugger.back();
-    assert_eq!(rt; told(&rt, rt.alloc(), back).as_str(), "B3 AtStart");
+    equal(&rt, told(&rt, rt.alloc(), back).as_str(), "B3 AtStart");
     let far = debugger.go(11);
-    assert_eq!(rt; told(&rt, rt.alloc(), far).as_str(), "B6 OutOfRange");
+    equal(&rt, told(&rt, rt.alloc(), far).as_str(), "B6 OutOfRange");
     works(&rt, rt.alloc(), &mut debugger, &[(Move::Go(10), 10)]);
     let step = debugger.step();
-    assert_eq!(rt; told(&rt, rt.alloc(), step).as_str(), "B2 AtEnd");
+    equal(&rt, told(&rt, rt.alloc(), step).as_str(), "B2 AtEnd");
     for action in [0, 5] {
         let set = debugger.set_break(action);
-        assert_eq!(rt; told(&rt, rt.alloc(), set).as_str(), "B4 NoStatement");
+        equal(&rt, told(&rt, rt.alloc(), set).as_str(), "B4 NoStatement");
         let clear = debugger.clear_break(action);
-        assert_eq!(rt; told(&rt, rt.alloc(), clear).as_str(), "B4 NoStatement");
+        equal(&rt, told(&rt, rt.alloc(), clear).as_str(), "B4 NoStatement");
     }
-    assert_eq!(rt; debugger.work(), 10);
+    equal(&rt, debugger.work(), 10);
 }
 
 #[test]
@@ -111,13 +112,13 @@ fn a_search_costs_the_move_to_what_is_found(rt: HostRuntime) {
     debugger.set_break(1).expect(&rt, "a breakpoint");
     assert!(rt; debugger.forward_to_break().expect(&rt, "a move"));
     let first = debugger.position();
-    assert_eq!(rt; debugger.work(), first);
+    equal(&rt, debugger.work(), first);
     debugger.clear_break(1).expect(&rt, "no breakpoint");
     assert!(rt; !debugger.forward_to_break().expect(&rt, "a move"));
-    assert_eq!(rt; debugger.work(), first + 400);
+    equal(&rt, debugger.work(), first + 400);
     assert!(rt; !debugger.back_to_break().expect(&rt, "a move"));
-    assert_eq!(rt; debugger.position(), 0);
-    assert_eq!(rt; debugger.work(), first + 400);
+    equal(&rt, debugger.position(), 0);
+    equal(&rt, debugger.work(), first + 400);
 }
 
 // Whether a breakpoint was found, or the way was gone to its end, no answer of a session tells.
@@ -130,5 +131,5 @@ fn a_trap_is_found(rt: HostRuntime) {
     debugger.set_break(1).expect(&rt, "a breakpoint");
     assert!(rt; !debugger.back_to_break().expect(&rt, "a move"));
     assert!(rt; debugger.forward_to_break().expect(&rt, "a move"));
-    assert_eq!(rt; debugger.position(), 1);
+    equal(&rt, debugger.position(), 1);
 }

@@ -1,6 +1,7 @@
 //! Steps whose expressions are evaluated without the lock.
 
 use super::program;
+use crate::equal::equal;
 use cilk_run::{Act, Choice, Event, Glimpse, Locked, Refusal, propose};
 use cilk_spawn::{Fate, Path};
 use cilk_view::What;
@@ -33,7 +34,7 @@ fn make(rt: &impl Abort, locked: &mut Locked, choices: &[(u8, u8)]) {
 fn shows_first(rt: &impl Abort, alloc: Global, locked: &Locked, wanted: &str) {
     let what = What::Frame(Path::new(vec![in alloc; 1].expect(rt, "memory")));
     let text = locked.machine().text(&what).expect(rt, wanted);
-    assert_eq!(rt; text.as_str(), wanted);
+    equal(rt, text.as_str(), wanted);
 }
 
 fn glimpse(rt: &impl Abort, locked: &Locked, worker: u8) -> Glimpse {
@@ -67,12 +68,12 @@ fn is_stale_behind(
     let seen = glimpse(rt, locked, worker);
     make(rt, locked, choices);
     let refusal = locked.commit(propose(seen)).err();
-    assert_eq!(rt; refusal, Some(Refusal::Stale));
-    assert_eq!(rt; locked.history().len(), count);
+    equal(rt, refusal, Some(Refusal::Stale));
+    equal(rt, locked.history().len(), count);
 }
 
 fn has(rt: &impl Abort, locked: &Locked, name: &str, value: i32) {
-    assert_eq!(rt; locked.machine().global(name, 0), Some(value));
+    equal(rt, locked.machine().global(name, 0), Some(value));
 }
 
 // Worker 1 looks again, and its step is made.
@@ -116,12 +117,12 @@ fn sees(
 type Seen<'a> = (&'a [u32], (u32, Option<i32>, usize));
 
 fn is_seen(rt: &impl Abort, (path, rest): Seen<'_>, wanted: Seen<'_>) {
-    assert_eq!(rt; path, wanted.0);
-    assert_eq!(rt; rest, wanted.1);
+    equal(rt, path, wanted.0);
+    equal(rt, rest, wanted.1);
 }
 
 fn holds(rt: &impl Abort, value: i32, wanted: i32) {
-    assert_eq!(rt; value, wanted);
+    equal(rt, value, wanted);
 }
 
 #[test]
@@ -154,6 +155,6 @@ fn ends(rt: &impl Abort, locked: &mut Locked) {
         ([3].as_slice(), None),
         ([1, 1].as_slice(), None),
     ] {
-        assert_eq!(rt; locked.machine().fate(path), fate);
+        equal(rt, locked.machine().fate(path), fate);
     }
 }

@@ -1,6 +1,7 @@
 //! Runs by several workers, each a thread, with gates that hold some of them back.
 
 use super::program;
+use crate::equal::equal;
 use cilk_run::{Act, Choice, End, Event, Gate, Locked, Open, Refusal, Run, RunFault, run};
 use std::process::Abort;
 use std::sync::atomic::{AtomicU64, Ordering};
@@ -77,8 +78,8 @@ impl<'a> Holding<'a> {
 
     // Asserts that these turns were held, and that nothing went wrong.
     fn held(&self, rt: &impl Abort, turns: u64) {
-        assert_eq!(rt; self.failures.load(Ordering::SeqCst), 0);
-        assert_eq!(rt; self.held.load(Ordering::SeqCst), turns);
+        equal(rt, self.failures.load(Ordering::SeqCst), 0);
+        equal(rt, self.held.load(Ordering::SeqCst), turns);
     }
 }
 
@@ -154,8 +155,8 @@ fn two_workers_take_turns(rt: HostRuntime) {
 
 // These are the choices, and each worker made so many.
 fn has_made(rt: &impl Abort, run: &Run, choices: &[Choice], turns: &[u64]) {
-    assert_eq!(rt; run.log.choices.as_slice(), choices);
-    assert_eq!(rt; run.turns.as_slice(), turns);
+    equal(rt, run.log.choices.as_slice(), choices);
+    equal(rt, run.turns.as_slice(), turns);
 }
 
 // One thread waits for turns to which only another could come.
@@ -168,9 +169,9 @@ fn one_thread_fails_at_its_first_hold(rt: HostRuntime) {
     let mut gate = Holding::new(&holds, (turn(2, 2), turn(2, 3)));
     gate.looks = 1000;
     gate.before(1, 1);
-    assert_eq!(rt; gate.failures.load(Ordering::SeqCst), 0);
+    equal(&rt, gate.failures.load(Ordering::SeqCst), 0);
     gate.before(1, 2);
-    assert_eq!(rt; gate.failures.load(Ordering::SeqCst), 1);
+    equal(&rt, gate.failures.load(Ordering::SeqCst), 1);
 }
 
 #[test]
@@ -216,7 +217,7 @@ fn the_next_worker_in_the_circle_is_robbed_first(rt: HostRuntime) {
 
 fn robs_first(rt: &impl Abort, run: &Run) {
     let first = run.log.choices.as_slice().iter().find(|it| it.worker == 3);
-    assert_eq!(rt; first.copied(), Some(steal(3, 1)));
+    equal(rt, first.copied(), Some(steal(3, 1)));
 }
 
 #[test]
@@ -240,15 +241,15 @@ fn make(rt: &impl Abort, locked: &mut Locked, choices: &[Choice]) {
 
 fn waits(rt: &impl Abort, locked: &mut Locked) {
     let refused = locked.make(step(2)).err();
-    assert_eq!(rt; refused, Some(Refusal::Waiting));
-    assert_eq!(rt; locked.history().len(), 5);
+    equal(rt, refused, Some(Refusal::Waiting));
+    equal(rt, locked.history().len(), 5);
 }
 
 fn goes_on(rt: &impl Abort, locked: &mut Locked) {
     let acted = matches!(locked.make(step(2)), Ok(Event::Acted { n: 1, .. }));
     assert!(rt; acted);
-    assert_eq!(rt; locked.history().len(), 8);
-    assert_eq!(rt; locked.machine().choices(), 8);
+    equal(rt, locked.history().len(), 8);
+    equal(rt, locked.machine().choices(), 8);
 }
 
 #[test]
@@ -262,8 +263,8 @@ fn a_run_ends_at_its_limit(rt: HostRuntime) {
 
 fn has_come_to_its_limit(rt: &impl Abort, run: &Run) {
     assert!(rt; matches!(run.end, End::Limit));
-    assert_eq!(rt; run.log.choices.len(), 1000);
-    assert_eq!(rt; run.log.choices.get(999), Some(step(1)));
+    equal(rt, run.log.choices.len(), 1000);
+    equal(rt, run.log.choices.get(999), Some(step(1)));
 }
 
 #[test]
@@ -271,6 +272,6 @@ fn there_are_1_to_64_workers(rt: HostRuntime) {
     for workers in [0, 65] {
         let program = program(&rt, rt.alloc(), LOOPING);
         let fault = run(&rt, rt.alloc(), program, workers, 9, &Open).err();
-        assert_eq!(rt; fault, Some(RunFault::Workers));
+        equal(&rt, fault, Some(RunFault::Workers));
     }
 }
