@@ -13,6 +13,8 @@ from concurrent.futures import FIRST_COMPLETED, ThreadPoolExecutor, wait
 
 TOP = os.path.dirname(os.path.dirname(os.path.realpath(__file__)))
 PARTS = ("src", "specs", "proofs")
+# The crates of tests.
+TESTS = ("cilk_tests", "cilk_tests_runs", "cilk_tests_again")
 # The memory that a check may take, in bytes: most take a third of it.
 ROOM = 3_500_000_000
 # The most processes that one check gains from, and those that a crate with one of the longest chains above it gets where there are as many processors.

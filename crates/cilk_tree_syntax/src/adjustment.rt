@@ -6,7 +6,7 @@ ghost use Rattle.cilk_tree_syntax.specs.Adjustments.{adjustment_mark, operator_o
 use crate::operator::BinOp;
 
 /// Whether 1 is added to a variable or subtracted from it (C 1990, 6.3.2.4 and 6.3.3.1).
-#[derive(Clone, Copy)]
+#[derive(Clone, Copy, PartialEq, Eq)]
 pub enum Adjustment {
     Increment,
     Decrement,

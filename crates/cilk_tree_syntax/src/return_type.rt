@@ -4,7 +4,7 @@ ghost use Rattle.std.specs.Prelude.{◌≡◌};
 ghost use Rattle.cilk_tree_syntax.specs.ReturnWord.{word_of};
 
 /// What a procedure returns (C 1990, 6.7.1; Cilk 5.4 manual, `cilk`).
-#[derive(Clone, Copy)]
+#[derive(Clone, Copy, PartialEq, Eq)]
 pub enum ReturnType {
     Int,
     Void,

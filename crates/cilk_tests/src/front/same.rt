@@ -1,7 +1,7 @@
 //! Programs that are the same, places aside, and such that are not.
 
 use super::program;
-use cilk_tree::canonical;
+use crate::alike::Same;
 use std::alloc::Global;
 use std::process::Abort;
 
@@ -55,9 +55,9 @@ cilk void f(){inlet void g(){} } and cilk void f(){inlet void h(){} }
 int f(int); and int f(int, int);
 #include <stdio.h> and #include <stdlib.h>";
 
-/// The canonical text of a program: two that are the same, places aside, have one.
-fn text_of(rt: &impl Abort, alloc: Global, text: &str) -> String {
-    canonical(alloc, &program(rt, alloc, text)).expect(rt, text)
+fn is_same(rt: &impl Abort, alloc: Global, text: &str, other: &str) -> bool {
+    let program = program(rt, alloc, text);
+    program.same(&super::program(rt, alloc, other))
 }
 
 #[test]
@@ -65,8 +65,8 @@ fn same_programs_and_others(rt: HostRuntime) {
     for (table, same) in [(SAME, true), (OTHER, false)] {
         for line in table.lines() {
             let (text, other) = line.split_once(" and ").expect(&rt, line);
-            let told = text_of(&rt, rt.alloc(), text);
-            assert_eq!(rt; told == text_of(&rt, rt.alloc(), other), same, "{line}");
+            assert_eq!(rt; is_same(&rt, rt.alloc(), text, other), same, "{line}");
+            assert_eq!(rt; is_same(&rt, rt.alloc(), other, text), same, "{line}");
         }
     }
 }
