@@ -72,7 +72,7 @@ memory: cilk
 must_not_compile:
 	tools/must_not_compile
 
-# Tries the wrong bodies of the crates named in CRATES, or of all (docs/GATE.md).
+# Tries the wrong bodies of the crates named in CRATES, or those named there as CRATE/EDIT, or all (docs/GATE.md).
 wrong-bodies:
 	tools/wrong_bodies $(CRATES)
 
