@@ -4,7 +4,7 @@ sources := $(shell find crates \( -name out -o -name must-fail \) -prune -o -typ
 
 .PHONY: help demo libraries test ways programs pictures second-way fuzz sweep again memory must_not_compile costs wrong-bodies edge budget bench clean
 
-# Proves what ./cilk is made of where it stands, and builds it.
+# Proves what ./cilk is made of, and builds it.
 cilk: crates.txt HANDLES $(sources)
 	tools/build
 

@@ -2,8 +2,14 @@
 
 It refuses the call whose number among those of its kind is REFUSED_NUMBER, and writes into the file REFUSED_TOLD the stream and the name of that call's file,
 where it has any. So that file is there if there was such a call.
+
+Where REFUSED_EACH names a file, each call is refused, all in one run: a child begins there, which goes on with that call refused and writes elsewhere, and
+when it has ended the program goes on as if nothing had been refused. The file gets what became of each child. Such a program writes no files and reads its
+input from one, and once it has begun a thread no more children begin.
 """
+import dataclasses
 import os
+import re
 import shutil
 import subprocess
 
@@ -16,20 +22,88 @@ extern long syscall(long, ...);
 extern int *__errno_location(void), sprintf(char *, const char *, ...), strcmp(const char *, const char *), atoi(const char *);
 extern size strlen(const char *);
 extern void *dlsym(void *, const char *);
-enum { READ = 0, WRITE = 1, OPEN = 2, CLOSE = 3, PREAD = 17, PWRITE = 18, READV = 19, WRITEV = 20, FSYNC = 74, FDATASYNC = 75, RENAME = 82, READLINK = 89 };
+enum { READ = 0, WRITE = 1, OPEN = 2, CLOSE = 3, LSEEK = 8, PREAD = 17, PWRITE = 18, READV = 19, WRITEV = 20, DUP2 = 33, ALARM = 37, EXIT = 231 };
+enum { WAIT4 = 61, FCNTL = 72, FSYNC = 74, FDATASYNC = 75, FTRUNCATE = 77, RENAME = 82, READLINK = 89, MEMFD = 319 };
+extern int fork(void);
 static const char *kind, *told;
-static int number, count;
+static int number, count, each = -1, is_threaded;
+/* What a child writes on standard output and on standard error, and how much the program has written there. */
+static int of_child[3];
+static long written[3];
+
+/* Gives a file a number that the program does not come to. */
+static int far(long file) {
+    int moved = (int)syscall(FCNTL, file, 0, 500L);
+    syscall(CLOSE, file);
+    return moved;
+}
 
 __attribute__((constructor)) static void begin(void) {
-    const char *which = getenv("REFUSED_NUMBER");
+    const char *which = getenv("REFUSED_NUMBER"), *where = getenv("REFUSED_EACH");
     told = getenv("REFUSED_TOLD");
     number = which ? atoi(which) : 0;
     kind = getenv("REFUSED_KIND");
+    if (!where) return;
+    each = far(syscall(OPEN, where, 02101, 0600));
+    for (int s = 1; s <= 2; s++) of_child[s] = far(syscall(MEMFD, "child", 0L));
+}
+
+/* Gives a child files of its own, open at the same places, so that the program reads on where it was. */
+static void part_files(void) {
+    char name[40];
+    for (int s = 0; s < 100; s++) {
+        long at = s == 1 || s == 2 ? -1 : syscall(LSEEK, (long)s, 0L, 1L);
+        if (at < 0) continue;
+        sprintf(name, "/proc/self/fd/%d", s);
+        long own = syscall(OPEN, name, syscall(FCNTL, (long)s, 3L, 0L) & ~03300L, 0L);
+        if (own < 0) continue;
+        syscall(LSEEK, own, at, 0L);
+        syscall(DUP2, own, (long)s);
+        syscall(CLOSE, own);
+    }
+}
+
+/* Writes what a child wrote to one of its files behind the report, and empties the file. */
+static void keep(int file, long count) {
+    static char some[65536];
+    for (long at = 0, got; at < count && (got = syscall(PREAD, (long)file, some, sizeof some, at)) > 0; at += got) syscall(WRITE, (long)each, some, got);
+    syscall(FTRUNCATE, (long)file, 0L);
+    syscall(LSEEK, (long)file, 0L, 0L);
+}
+
+/* Whether this is the child for which the call is refused. The program waits for it, and reports it. */
+static int is_child(void) {
+    char line[200];
+    int this = ++count, status = 0;
+    if (is_threaded) return 0;
+    long child = fork();
+    if (child < 0) syscall(EXIT, 99L);
+    if (!child) {
+        kind = 0;
+        for (int s = 1; s <= 2; s++) syscall(DUP2, (long)of_child[s], (long)s);
+        part_files();
+        syscall(ALARM, 120L);
+        return 1;
+    }
+    syscall(WAIT4, child, &status, 0L, 0L);
+    long output = syscall(LSEEK, (long)of_child[1], 0L, 2L), errors = syscall(LSEEK, (long)of_child[2], 0L, 2L);
+    sprintf(line, "%d %d %ld %ld %ld %ld\n", this, status, written[1], written[2], output, errors);
+    syscall(WRITE, (long)each, line, strlen(line));
+    keep(of_child[1], output);
+    keep(of_child[2], errors);
+    return 0;
+}
+
+static long counted(int stream, long moved) {
+    if (each >= 0 && moved > 0 && (stream == 1 || stream == 2)) written[stream] += moved;
+    return moved;
 }
 
 static int is_refused(const char *of, int stream, const char *name) {
     char line[300] = "", link[40];
-    if (!kind || strcmp(kind, of) || __atomic_add_fetch(&count, 1, 5) != number) return 0;
+    if (!kind || strcmp(kind, of)) return 0;
+    if (each >= 0) return is_child();
+    if (__atomic_add_fetch(&count, 1, 5) != number) return 0;
     long file = syscall(OPEN, told, 02101, 0600);
     if (name) {
         sprintf(line, "- %.200s", name);
@@ -68,7 +142,7 @@ long pread(int s, void *to, size n, long at) {
 long readv(int s, const part *of, int n) { return is_failed("read", s, 5) ? -1 : syscall(READV, s, of, (long)n); }
 long write(int s, const void *of, size n) {
     if (is_failed("write", s, 28)) return -1;
-    return syscall(WRITE, s, of, n > 1 && is_refused("short-write", s, 0) ? 1L : n);
+    return counted(s, syscall(WRITE, s, of, n > 1 && is_refused("short-write", s, 0) ? 1L : n));
 }
 long pwrite(int s, const void *of, size n, long at) {
     if (is_failed("write", s, 28)) return -1;
@@ -77,7 +151,7 @@ long pwrite(int s, const void *of, size n, long at) {
 long writev(int s, const part *of, int n) {
     if (is_failed("write", s, 28)) return -1;
     if (n > 0 && of->length > 0 && is_refused("short-write", s, 0)) return syscall(WRITE, s, of->base, 1L);
-    return syscall(WRITEV, s, of, (long)n);
+    return counted(s, syscall(WRITEV, s, of, (long)n));
 }
 int open(const char *name, int how, int rights) {
     if (!is_refused("open", -1, name)) return syscall(OPEN, name, how, rights);
@@ -87,6 +161,7 @@ int open(const char *name, int how, int rights) {
 int rename(const char *from, const char *to) { return is_failed("rename", -1, 28) ? -1 : syscall(RENAME, from, to); }
 int pthread_create(void *thread, const void *how, void *(*work)(void *), void *with) {
     int (*real)(void *, const void *, void *(*)(void *), void *) = dlsym((void *)-1L, "pthread_create");
+    is_threaded = 1;
     return is_refused("thread", -1, 0) ? 11 : real(thread, how, work, with);
 }
 int fsync(int s) { return is_failed("sync", s, 5) ? -1 : (int)syscall(FSYNC, s); }
@@ -111,3 +186,32 @@ def library(room):
 def environment(made, kind, told):
     """Returns the environment of a program of which a call of this kind is refused: that of no number yet."""
     return {"PATH": "/usr/local/bin:/usr/bin:/bin", "LANG": "C.UTF-8", "LD_PRELOAD": made, "REFUSED_KIND": kind, "REFUSED_TOLD": told}
+
+
+@dataclasses.dataclass
+class Child:
+    """What became of a program from the call on that it was refused: the number of the call, its status, and what it wrote behind what had been written."""
+
+    number: int
+    status: int
+    written: tuple
+    output: bytes
+    errors: bytes
+
+    def answer(self, output, errors):
+        """Returns the whole answer, with the front of what the program itself wrote in the end."""
+        return self.status, output[: self.written[0]] + self.output, errors[: self.written[1]] + self.errors
+
+
+def children(report):
+    """Returns what became of each child of a run, from its report."""
+    with open(report, "rb") as it:
+        text = it.read()
+    found, at = [], 0
+    while at < len(text):
+        line = re.compile(rb"(\d+) (\d+) (\d+) (\d+) (\d+) (\d+)\n").match(text, at)
+        number, status, *written, output, errors = map(int, line.groups())
+        at = line.end()
+        found.append(Child(number, os.waitstatus_to_exitcode(status), tuple(written), text[at : at + output], text[at + output : at + output + errors]))
+        at += output + errors
+    return found
