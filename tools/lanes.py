@@ -131,7 +131,7 @@ def link_or_copy(one, other):
 class Lane:
     """A scratch copy of the repository's crates, in which one check runs at a time."""
 
-    running = set()
+    running, is_over = set(), False
 
     def __init__(self, crates, folder):
         self.crates, self.folder, self.has = crates, folder, set()
@@ -164,6 +164,8 @@ class Lane:
 
     def run(self, name, words):
         """Runs a command in a crate's folder of the lane; returns its status and what it said."""
+        if Lane.is_over:
+            raise InterruptedError("all checks were stopped")
         # (a session of its own would share the processors with others by halves, whatever `nice` says; rt ends what it has begun where it is ended)
         how = {"stdin": subprocess.DEVNULL, "stdout": subprocess.PIPE, "stderr": subprocess.STDOUT}
         ran = subprocess.Popen(words, cwd=f"{self.folder}/crates/{name}", text=True, errors="replace", **how)
@@ -195,7 +197,8 @@ class Lane:
 
 
 def stop_all():
-    """Ends all commands that run in lanes."""
+    """Ends all commands that run in lanes, and lets none begin."""
+    Lane.is_over = True
     for it in list(Lane.running):
         it.terminate()
 

@@ -3,7 +3,7 @@
 It refuses the call whose number among those of its kind is REFUSED_NUMBER, and writes into the file REFUSED_TOLD the stream and the name of that call's file,
 where it has any. So that file is there if there was such a call.
 
-Where REFUSED_EACH names a file, each call is refused, all in one run: a child begins there, which goes on with that call refused and writes elsewhere, and
+Where REFUSED_EACH names a file, each call is refused, or behind the first REFUSED_FAR of them one in REFUSED_STRIDE, all in one run: a child begins there, which goes on with that call refused and writes elsewhere, and
 when it has ended the program goes on as if nothing had been refused. The file gets what became of each child. Such a program writes no files and reads its
 input from one, and once it has begun a thread no more children begin.
 """
@@ -16,7 +16,7 @@ import subprocess
 TEXT = r"""
 typedef unsigned long size;
 typedef struct { char *base; size length; } part;
-extern void *__libc_malloc(size), *__libc_calloc(size, size), *__libc_realloc(void *, size), *__libc_memalign(size, size);
+extern void *__libc_malloc(size), *__libc_calloc(size, size), *__libc_realloc(void *, size), *__libc_memalign(size, size), __libc_free(void *);
 extern char *getenv(const char *);
 extern long syscall(long, ...);
 extern int *__errno_location(void), sprintf(char *, const char *, ...), strcmp(const char *, const char *), atoi(const char *);
@@ -26,7 +26,10 @@ enum { READ = 0, WRITE = 1, OPEN = 2, CLOSE = 3, LSEEK = 8, PREAD = 17, PWRITE =
 enum { WAIT4 = 61, FCNTL = 72, FSYNC = 74, FDATASYNC = 75, FTRUNCATE = 77, RENAME = 82, READLINK = 89, MEMFD = 319 };
 extern int fork(void);
 static const char *kind, *told;
-static int number, count, each = -1, is_threaded;
+static int number, count, each = -1, far_count, stride = 1, is_threaded;
+/* From so many growths on a child gives no memory back: what it writes there the system would copy first, of all that the program has. */
+enum { LARGE = 10000 };
+static int is_large_child;
 /* What a child writes on standard output and on standard error, and how much the program has written there. */
 static int of_child[3];
 static long written[3];
@@ -44,6 +47,8 @@ __attribute__((constructor)) static void begin(void) {
     number = which ? atoi(which) : 0;
     kind = getenv("REFUSED_KIND");
     if (!where) return;
+    far_count = atoi(getenv("REFUSED_FAR"));
+    stride = atoi(getenv("REFUSED_STRIDE"));
     each = far(syscall(OPEN, where, 02101, 0600));
     for (int s = 1; s <= 2; s++) of_child[s] = far(syscall(MEMFD, "child", 0L));
 }
@@ -75,11 +80,12 @@ static void keep(int file, long count) {
 static int is_child(void) {
     char line[200];
     int this = ++count, status = 0;
-    if (is_threaded) return 0;
+    if (is_threaded || (this > far_count && this % stride)) return 0;
     long child = fork();
     if (child < 0) syscall(EXIT, 99L);
     if (!child) {
         kind = 0;
+        is_large_child = this > LARGE;
         for (int s = 1; s <= 2; s++) syscall(DUP2, (long)of_child[s], (long)s);
         part_files();
         syscall(ALARM, 120L);
@@ -127,6 +133,9 @@ static int is_failed(const char *of, int stream, int error) {
 void *malloc(size n) { return is_failed("growth", -1, 12) ? 0 : __libc_malloc(n); }
 void *calloc(size n, size of) { return is_failed("growth", -1, 12) ? 0 : __libc_calloc(n, of); }
 void *realloc(void *at, size n) { return is_failed("growth", -1, 12) ? 0 : __libc_realloc(at, n); }
+void free(void *of) {
+    if (!is_large_child) __libc_free(of);
+}
 void *memalign(size to, size n) { return is_failed("growth", -1, 12) ? 0 : __libc_memalign(to, n); }
 void *aligned_alloc(size to, size n) { return memalign(to, n); }
 int posix_memalign(void **at, size to, size n) { return (*at = memalign(to, n)) ? 0 : 12; }
