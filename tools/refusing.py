@@ -27,7 +27,7 @@ enum { WAIT4 = 61, FCNTL = 72, FSYNC = 74, FDATASYNC = 75, FTRUNCATE = 77, RENAM
 extern int fork(void);
 static const char *kind, *told;
 static int number, count, each = -1, far_count, stride = 1, is_threaded;
-/* From so many growths on a child gives no memory back: what it writes there the system would copy first, of all that the program has. */
+/* Where not each growth is refused, a child gives no memory back from so many growths on: what it writes there the system would copy first, of all that the program has. */
 enum { LARGE = 10000 };
 static int is_large_child;
 /* What a child writes on standard output and on standard error, and how much the program has written there. */
@@ -85,7 +85,7 @@ static int is_child(void) {
     if (child < 0) syscall(EXIT, 99L);
     if (!child) {
         kind = 0;
-        is_large_child = this > LARGE;
+        is_large_child = stride > 1 && this > LARGE;
         for (int s = 1; s <= 2; s++) syscall(DUP2, (long)of_child[s], (long)s);
         part_files();
         syscall(ALARM, 120L);
