@@ -3,9 +3,10 @@
 It refuses the call whose number among those of its kind is REFUSED_NUMBER, and writes into the file REFUSED_TOLD the stream and the name of that call's file,
 where it has any. So that file is there if there was such a call.
 
-Where REFUSED_EACH names a file, each call is refused, or behind the first REFUSED_FAR of them one in REFUSED_STRIDE, all in one run: a child begins there, which goes on with that call refused and writes elsewhere, and
-when it has ended the program goes on as if nothing had been refused. The file gets what became of each child. Such a program writes no files and reads its
-input from one, and once it has begun a thread no more children begin.
+Where REFUSED_EACH names a file, many calls are refused in one run: a child begins there, which goes on with that call refused and writes elsewhere, and when it
+has ended the program goes on as if nothing had been refused. The file gets what became of each child. Such a program writes no files and reads its input from
+one, and once it has begun a thread no more children begin. The calls are those behind number REFUSED_FROM, up to REFUSED_TO, one in REFUSED_PARTS, which are
+part REFUSED_PART of them; a child numbered 0 tells that there was a call behind these. Behind LARGE calls one child in REFUSED_DROPS gives memory back.
 """
 import dataclasses
 import os
@@ -13,6 +14,8 @@ import re
 import shutil
 import subprocess
 
+# Behind so many growths few children give memory back: what they write there the system would copy first, of all that the program has.
+LARGE = 10_000
 TEXT = r"""
 typedef unsigned long size;
 typedef struct { char *base; size length; } part;
@@ -26,10 +29,8 @@ enum { READ = 0, WRITE = 1, OPEN = 2, CLOSE = 3, LSEEK = 8, PREAD = 17, PWRITE =
 enum { WAIT4 = 61, FCNTL = 72, FSYNC = 74, FDATASYNC = 75, FTRUNCATE = 77, RENAME = 82, READLINK = 89, MEMFD = 319 };
 extern int fork(void);
 static const char *kind, *told;
-static int number, count, each = -1, far_count, stride = 1, is_threaded;
-/* Where not each growth is refused, a child gives no memory back from so many growths on: what it writes there the system would copy first, of all that the program has. */
-enum { LARGE = 10000 };
-static int is_large_child;
+static int number, count, each = -1, from, to, parts = 1, part_of_them, drops = 1, is_threaded;
+static int keeps_all;
 /* What a child writes on standard output and on standard error, and how much the program has written there. */
 static int of_child[3];
 static long written[3];
@@ -47,8 +48,11 @@ __attribute__((constructor)) static void begin(void) {
     number = which ? atoi(which) : 0;
     kind = getenv("REFUSED_KIND");
     if (!where) return;
-    far_count = atoi(getenv("REFUSED_FAR"));
-    stride = atoi(getenv("REFUSED_STRIDE"));
+    from = atoi(getenv("REFUSED_FROM"));
+    to = atoi(getenv("REFUSED_TO"));
+    parts = atoi(getenv("REFUSED_PARTS"));
+    part_of_them = atoi(getenv("REFUSED_PART"));
+    drops = atoi(getenv("REFUSED_DROPS"));
     each = far(syscall(OPEN, where, 02101, 0600));
     for (int s = 1; s <= 2; s++) of_child[s] = far(syscall(MEMFD, "child", 0L));
 }
@@ -80,12 +84,17 @@ static void keep(int file, long count) {
 static int is_child(void) {
     char line[200];
     int this = ++count, status = 0;
-    if (is_threaded || (this > far_count && this % stride)) return 0;
+    if (is_threaded || this <= from) return 0;
+    if (this > to) {
+        if (this == to + 1) syscall(WRITE, (long)each, "0 0 0 0 0 0\n", 12L);
+        return 0;
+    }
+    if (this % parts != part_of_them) return 0;
     long child = fork();
     if (child < 0) syscall(EXIT, 99L);
     if (!child) {
         kind = 0;
-        is_large_child = stride > 1 && this > LARGE;
+        keeps_all = this > LARGE && this % drops;
         for (int s = 1; s <= 2; s++) syscall(DUP2, (long)of_child[s], (long)s);
         part_files();
         syscall(ALARM, 120L);
@@ -134,7 +143,7 @@ void *malloc(size n) { return is_failed("growth", -1, 12) ? 0 : __libc_malloc(n)
 void *calloc(size n, size of) { return is_failed("growth", -1, 12) ? 0 : __libc_calloc(n, of); }
 void *realloc(void *at, size n) { return is_failed("growth", -1, 12) ? 0 : __libc_realloc(at, n); }
 void free(void *of) {
-    if (!is_large_child) __libc_free(of);
+    if (!keeps_all) __libc_free(of);
 }
 void *memalign(size to, size n) { return is_failed("growth", -1, 12) ? 0 : __libc_memalign(to, n); }
 void *aligned_alloc(size to, size n) { return memalign(to, n); }
@@ -184,7 +193,7 @@ def library(room):
     kit = os.path.join(os.path.dirname(os.path.dirname(os.path.realpath(rt))), "toolchain/bin/clang") if rt else ""
     source, made = f"{room}/refuser.c", f"{room}/refuser.so"
     with open(source, "w", encoding="utf-8") as it:
-        it.write(TEXT)
+        it.write(f"enum {{ LARGE = {LARGE} }};{TEXT}")
     flags = ["-shared", "-fPIC", "-O1", "-nostdlib", "-fno-builtin", "-w", source, "-o", made]
     for compiler in ([kit, "-fuse-ld=lld"] if os.path.exists(kit) else None, ["cc"]):
         if compiler and not subprocess.run([*compiler, *flags], stdin=subprocess.DEVNULL, capture_output=True, check=False).returncode:
