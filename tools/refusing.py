@@ -6,7 +6,11 @@ where it has any. So that file is there if there was such a call.
 Where REFUSED_EACH names a file, many calls are refused in one run: a child begins there, which goes on with that call refused and writes elsewhere, and when it
 has ended the program goes on as if nothing had been refused. The file gets what became of each child. Such a program writes no files and reads its input from
 one, and once it has begun a thread no more children begin. The calls are those behind number REFUSED_FROM, up to REFUSED_TO, one in REFUSED_PARTS, which are
-part REFUSED_PART of them; a child numbered 0 tells that there was a call behind these. Behind LARGE calls one child in REFUSED_DROPS gives memory back.
+part REFUSED_PART of them; a child numbered 0 tells that there was a call behind these.
+
+What a child writes into the system copies first, so such a program has its memory from the library, which keeps what it knows of a piece apart from it: to give
+back a million pieces is to write few pages. One that is given back twice, or that was none, ends the program by a signal. Up to LARGE calls, and behind that in
+one child of SPOILED, a piece is written over when it is given back. A child uses no piece again.
 """
 import dataclasses
 import os
@@ -14,8 +18,8 @@ import re
 import shutil
 import subprocess
 
-# Behind so many growths few children give memory back: what they write there the system would copy first, of all that the program has.
-LARGE = 10_000
+# Behind so many growths what is given back is written over in one child of SPOILED: of a program of 100 MB the system would copy all of it first.
+LARGE, SPOILED = 10_000, 61
 TEXT = r"""
 typedef unsigned long size;
 typedef struct { char *base; size length; } part;
@@ -24,13 +28,12 @@ extern char *getenv(const char *);
 extern long syscall(long, ...);
 extern int *__errno_location(void), sprintf(char *, const char *, ...), strcmp(const char *, const char *), atoi(const char *);
 extern size strlen(const char *);
-extern void *dlsym(void *, const char *);
+extern void *dlsym(void *, const char *), *memcpy(void *, const void *, size), *memset(void *, int, size);
 enum { READ = 0, WRITE = 1, OPEN = 2, CLOSE = 3, LSEEK = 8, PREAD = 17, PWRITE = 18, READV = 19, WRITEV = 20, DUP2 = 33, ALARM = 37, EXIT = 231 };
-enum { WAIT4 = 61, FCNTL = 72, FSYNC = 74, FDATASYNC = 75, FTRUNCATE = 77, RENAME = 82, READLINK = 89, MEMFD = 319 };
+enum { MMAP = 9, MADVISE = 28, GETPID = 39, WAIT4 = 61, KILL = 62, FCNTL = 72, FSYNC = 74, FDATASYNC = 75, FTRUNCATE = 77, RENAME = 82, READLINK = 89, MEMFD = 319 };
 extern int fork(void);
 static const char *kind, *told;
-static int number, count, each = -1, from, to, parts = 1, part_of_them, drops = 1, is_threaded;
-static int keeps_all;
+static int number, count, each = -1, from, to, parts = 1, part_of_them, is_threaded;
 /* What a child writes on standard output and on standard error, and how much the program has written there. */
 static int of_child[3];
 static long written[3];
@@ -42,6 +45,84 @@ static int far(long file) {
     return moved;
 }
 
+/* The memory of a program in which children begin: slabs, each with pieces of one class, all of which are of one size. What is known of a piece stands apart from it. */
+enum { SLAB = 1 << 18, SLABS = 1 << 16, CLASSES = 128, SMALL = 64 };
+#define ARENA ((size)SLABS * SLAB)
+static char *arena, *next[CLASSES], *end[CLASSES];
+static unsigned char class_of[SLABS];
+/* A bit for each 16 bytes: whether a piece that is given out begins there. */
+static size *is_out;
+/* Where the pieces begin that were given back, in 16 bytes, by their class. */
+static unsigned *back[CLASSES];
+static size count_back[CLASSES], slabs;
+static int is_taken, spoils = 1, is_in_child;
+
+static void turn(void) {
+    while (is_threaded && __atomic_exchange_n(&is_taken, 1, 2)) {}
+}
+static void end_turn(void) { __atomic_store_n(&is_taken, 0, 3); }
+
+static void *room(size n) { return (void *)syscall(MMAP, 0L, n, 3L, 0x4022L, -1L, 0L); }
+
+static void begin_memory(void) {
+    is_out = room(ARENA / 128);
+    char *it = room(ARENA + (2 << 20));
+    arena = it + (-(size)it & ((2 << 20) - 1));
+    /* A child of a program of 100 MB in large pages begins and ends in a tenth of the time. */
+    syscall(MADVISE, arena + SMALL * (size)SLAB, ARENA - SMALL * (size)SLAB, 14L);
+}
+
+/* A piece has 16, 32, .. 128 bytes, and behind that there are four sizes up to each power of two. */
+static size size_of(int class) { return class < 8 ? 16 * (size)(class + 1) : (size)(128 + 32 * ((class - 8) % 4 + 1)) << (class - 8) / 4; }
+
+static int class_for(size n) {
+    if (n <= 128) return n ? (int)(n - 1) / 16 : 0;
+    int top = 63 - __builtin_clzl(n - 1);
+    return 8 + 4 * (top - 7) + (int)((n - 1) >> (top - 2) & 3);
+}
+
+static int is_ours(const void *of) { return arena && (size)((const char *)of - arena) < ARENA; }
+
+static void *take(int class) {
+    size n = size_of(class), many = (n + SLAB - 1) / SLAB;
+    char *it = 0;
+    turn();
+    if (count_back[class]) {
+        it = arena + 16 * (size)back[class][--count_back[class]];
+    } else {
+        if (next[class] + n > end[class] && slabs + many <= SLABS) {
+            next[class] = arena + slabs * SLAB;
+            end[class] = next[class] + many * SLAB;
+            class_of[slabs] = class;
+            slabs += many;
+        }
+        if (next[class] + n <= end[class]) {
+            it = next[class];
+            next[class] += n;
+        }
+    }
+    size at = (it - arena) / 16;
+    if (it) is_out[at / 64] |= 1UL << at % 64;
+    end_turn();
+    return it;
+}
+
+static void give(char *of) {
+    size at = (of - arena) / 16, bit = 1UL << at % 64;
+    int class = class_of[(of - arena) / SLAB];
+    turn();
+    if ((size)of % 16 || !(is_out[at / 64] & bit)) syscall(KILL, syscall(GETPID), 6L);
+    is_out[at / 64] &= ~bit;
+    if (spoils) memset(of, 0xdb, size_of(class));
+    if (!is_in_child) {
+        if (!back[class]) back[class] = room(ARENA / size_of(class) * 4);
+        back[class][count_back[class]++] = at;
+    }
+    end_turn();
+}
+
+static void *got(size n) { return !arena ? __libc_malloc(n) : n < ARENA ? take(class_for(n)) : 0; }
+
 __attribute__((constructor)) static void begin(void) {
     const char *which = getenv("REFUSED_NUMBER"), *where = getenv("REFUSED_EACH");
     told = getenv("REFUSED_TOLD");
@@ -52,7 +133,7 @@ __attribute__((constructor)) static void begin(void) {
     to = atoi(getenv("REFUSED_TO"));
     parts = atoi(getenv("REFUSED_PARTS"));
     part_of_them = atoi(getenv("REFUSED_PART"));
-    drops = atoi(getenv("REFUSED_DROPS"));
+    begin_memory();
     each = far(syscall(OPEN, where, 02101, 0600));
     for (int s = 1; s <= 2; s++) of_child[s] = far(syscall(MEMFD, "child", 0L));
 }
@@ -94,7 +175,8 @@ static int is_child(void) {
     if (child < 0) syscall(EXIT, 99L);
     if (!child) {
         kind = 0;
-        keeps_all = this > LARGE && this % drops;
+        is_in_child = 1;
+        spoils = this <= LARGE || this % SPOILED == 0;
         for (int s = 1; s <= 2; s++) syscall(DUP2, (long)of_child[s], (long)s);
         part_files();
         syscall(ALARM, 120L);
@@ -139,14 +221,45 @@ static int is_failed(const char *of, int stream, int error) {
     return 1;
 }
 
-void *malloc(size n) { return is_failed("growth", -1, 12) ? 0 : __libc_malloc(n); }
-void *calloc(size n, size of) { return is_failed("growth", -1, 12) ? 0 : __libc_calloc(n, of); }
-void *realloc(void *at, size n) { return is_failed("growth", -1, 12) ? 0 : __libc_realloc(at, n); }
-void free(void *of) {
-    if (!keeps_all) __libc_free(of);
+void *malloc(size n) { return is_failed("growth", -1, 12) ? 0 : got(n); }
+void *calloc(size n, size of) {
+    size all;
+    if (is_failed("growth", -1, 12) || __builtin_mul_overflow(n, of, &all)) return 0;
+    if (!arena) return __libc_calloc(n, of);
+    void *it = got(all);
+    return it ? memset(it, 0, all) : 0;
 }
-void *memalign(size to, size n) { return is_failed("growth", -1, 12) ? 0 : __libc_memalign(to, n); }
+void free(void *of) {
+    if (is_ours(of)) give(of);
+    else __libc_free(of);
+}
+void *realloc(void *at, size n) {
+    if (is_failed("growth", -1, 12)) return 0;
+    if (at && !is_ours(at)) return __libc_realloc(at, n);
+    if (!at) return got(n);
+    int class = class_of[((char *)at - arena) / SLAB];
+    if (class_for(n) == class) return at;
+    void *it = got(n);
+    if (!it) return 0;
+    memcpy(it, at, n < size_of(class) ? n : size_of(class));
+    give(at);
+    return it;
+}
+void *memalign(size to, size n) {
+    if (is_failed("growth", -1, 12)) return 0;
+    if (!arena) return __libc_memalign(to, n);
+    /* (a piece whose size is a power of two stands at a multiple of it) */
+    size all = to > n ? to : n, power = 16;
+    while (power < all) power *= 2;
+    return got(power);
+}
 void *aligned_alloc(size to, size n) { return memalign(to, n); }
+size malloc_usable_size(void *of) {
+    size (*real)(void *);
+    if (is_ours(of)) return size_of(class_of[((char *)of - arena) / SLAB]);
+    real = (size (*)(void *))dlsym((void *)-1L, "malloc_usable_size");
+    return of ? real(of) : 0;
+}
 int posix_memalign(void **at, size to, size n) { return (*at = memalign(to, n)) ? 0 : 12; }
 
 long read(int s, void *to, size n) {
@@ -193,7 +306,7 @@ def library(room):
     kit = os.path.join(os.path.dirname(os.path.dirname(os.path.realpath(rt))), "toolchain/bin/clang") if rt else ""
     source, made = f"{room}/refuser.c", f"{room}/refuser.so"
     with open(source, "w", encoding="utf-8") as it:
-        it.write(f"enum {{ LARGE = {LARGE} }};{TEXT}")
+        it.write(f"enum {{ LARGE = {LARGE}, SPOILED = {SPOILED} }};{TEXT}")
     flags = ["-shared", "-fPIC", "-O1", "-nostdlib", "-fno-builtin", "-w", source, "-o", made]
     for compiler in ([kit, "-fuse-ld=lld"] if os.path.exists(kit) else None, ["cc"]):
         if compiler and not subprocess.run([*compiler, *flags], stdin=subprocess.DEVNULL, capture_output=True, check=False).returncode:

@@ -22,7 +22,7 @@ same-is a b h =
     let ended : a.ended ≡ b.ended = (bytes_eq-Decides a.ended b.ended).0 both.1 in
     λ i. record { printed = printed i; ended = ended i }
 
-same-self : (a : Outcome) → same_outcome a a ≡ true
+pub same-self : (a : Outcome) → same_outcome a a ≡ true
 same-self a = λ i. (bytes_eq-Decides a.printed a.printed).1 refl i && (bytes_eq-Decides a.ended a.ended).1 refl i
 
 same-sym : (a b : Outcome) → same_outcome a b ≡ same_outcome b a

@@ -1,6 +1,6 @@
 //! `tally_of_seeds`: which outcomes the runs by one seed after another have, and how many have each.
 
-ghost use Rattle.std.specs.Prelude.{◌≡◌, ◌≢◌, ◌<◌, ◌≤◌, ◌-◌, ◌^◌, ◌⊎◌, Err, IfOk, IfErr, OnOk, List, map};
+ghost use Rattle.std.specs.Prelude.{◌≡◌, ◌≢◌, ◌<◌, ◌≤◌, ◌-◌, ◌^◌, ◌⊎◌, Err, IfOk, IfErr, OnOk, List, [], ◌∷◌, map};
 ghost use Rattle.cilk_run.specs.labelled.Bodies.{label};
 ghost use Rattle.cilk_run.specs.Tallied as model;
 ghost use Rattle.cilk_run.specs.Tallied.{IsRanked, IsTallyText, bumped, outcome_of, outcomes_from, tally, tally_text};
@@ -15,7 +15,7 @@ use std::alloc::{AllocError, Global};
 
 /// Makes the runs of so many seeds, from one on, as `run_by_seed` makes them, and tells which outcomes they have: what was printed, and the words of the
 /// closing line. An outcome is told with the number of runs that have it and the seed of the first of them; more runs come first, and of as
-/// many the smaller seed.
+/// many the smaller seed. One worker has nothing to draw, so one run stands for all then.
 pub fn tally_of_seeds(
     alloc: Global,
     program: &Loaded,
@@ -61,6 +61,65 @@ fn rank(rows: &mut Vec<Row>) -> Result<(), AllocError>
 
 // The rows of so many runs, in the order in which their outcomes came.
 fn tally(
+    alloc: Global,
+    program: &Loaded,
+    workers: u8,
+    limit: u32,
+    seed: u32,
+    runs: u32,
+) -> Result<Vec<Row>, RunFault>
+    ensures ok { IfOk result (λ rows. rows_by rows.items ≡ tally seed (outcomes_from (label program.now) workers limit seed runs)) }
+    ensures workers { result ≡ Err RunFault.Workers → (workers ≡ 0) ⊎ (64 < workers) }
+    ensures start { result ≢ Err RunFault.Start }
+{
+    if workers == 1 && 0 < runs {
+        return tally_alone(alloc, program, workers, limit, seed, runs);
+    }
+    tally_each(alloc, program, workers, limit, seed, runs)
+}
+
+// One worker has nothing to draw, so its runs are alike, and only the first is made.
+fn tally_alone(
+    alloc: Global,
+    program: &Loaded,
+    workers: u8,
+    limit: u32,
+    seed: u32,
+    runs: u32,
+) -> Result<Vec<Row>, RunFault>
+    requires alone { workers ≡ 1 }
+    requires some { 0 < runs }
+    ensures ok { IfOk result (λ rows. rows_by rows.items ≡ tally seed (outcomes_from (label program.now) workers limit seed runs)) }
+    ensures workers { result ≡ Err RunFault.Workers → (workers ≡ 0) ⊎ (64 < workers) }
+    ensures start { result ≢ Err RunFault.Start }
+{
+    let first = u64::from(seed);
+    match outcome_of(alloc, program, workers, limit, first) {
+        Ok(outcome) => only_row(alloc, outcome, runs, first),
+        Err(fault) => Err(fault),
+    }
+}
+
+fn only_row(alloc: Global, outcome: Outcome, count: u32, first: u64) -> Result<Vec<Row>, RunFault>
+    ensures ok { IfOk result (λ rows. rows_by rows.items ≡ record { outcome = outcome_by outcome; count = count; first = first } ∷ []) }
+    ensures err { IfErr result (λ why. why ≡ RunFault.Memory) }
+{
+    let mut rows = Vec::new(alloc);
+    match rows.push(Row {
+        outcome,
+        count,
+        first,
+    }) {
+        Ok(()) => Ok(rows),
+        Err(_) => {
+            drop(rows);
+            Err(RunFault::Memory)
+        }
+    }
+}
+
+// Each run is made.
+fn tally_each(
     alloc: Global,
     program: &Loaded,
     workers: u8,

@@ -2,7 +2,7 @@ use Rattle.std.proofs.Common.{◌+◌, arith}
 use Rattle.cilk_run.specs.labelled.Bodies.{label}
 use Rattle.cilk_run.specs.Tallying.{rows_by}
 use Rattle.cilk_run.proofs.Bumps.{few-counted, next-tally}
-use Rattle.cilk_run.proofs.tallying.tally.Goals as goal
+use Rattle.cilk_run.proofs.tallying.tally_each.Goals as goal
 
 pub add_run-requires : goal.add_run-requires
 add_run-requires c = record {
