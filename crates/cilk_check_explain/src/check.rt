@@ -5,7 +5,7 @@ use crate::labels::say_label;
 use crate::left_out::{left_out, say_left_out};
 use crate::meant::{say_count, say_kind, say_of_name};
 use crate::reason::Reason;
-use crate::rules::Spot;
+use crate::remarks::Spot;
 use crate::say::say;
 use crate::search::{declared_in_file, has_command_line, procedure_around};
 use crate::site::Site;

@@ -1,6 +1,6 @@
 //! Labels of a `switch`, and its body, that cannot stand where they do.
 
-use crate::rules::{Rule, Saying, Spot, Test};
+use crate::remarks::{Remark, Saying, Spot, Test};
 
 const CHOICES: &[&str] = &["case", "default"];
 
@@ -16,8 +16,8 @@ const UNLABELLED: &str =
 const BODY: &str = " cannot stand here, since the body of a `switch` is a block";
 
 /// Why a label, or what stands in one or behind it, cannot stand here.
-pub(crate) const LABELS: &[Rule] = &[
-    Rule {
+pub(crate) const LABELS: &[Remark] = &[
+    Remark {
         saying: Saying::Plain(LABEL),
         when: &[
             Test::Is(Spot::Before(0), CHOICES),
@@ -25,7 +25,7 @@ pub(crate) const LABELS: &[Rule] = &[
         ],
         unless: &[],
     },
-    Rule {
+    Remark {
         saying: Saying::Plain(UNLABELLED),
         when: &[
             Test::Is(Spot::Before(0), &["}"]),
@@ -34,7 +34,7 @@ pub(crate) const LABELS: &[Rule] = &[
         ],
         unless: &[],
     },
-    Rule {
+    Remark {
         saying: Saying::Plain(UNLABELLED),
         when: &[
             Test::Is(Spot::Before(0), &["}"]),
@@ -43,7 +43,7 @@ pub(crate) const LABELS: &[Rule] = &[
         ],
         unless: &[],
     },
-    Rule {
+    Remark {
         saying: Saying::Plain(UNLABELLED),
         when: &[
             Test::Is(Spot::Before(0), &["}"]),
@@ -53,17 +53,17 @@ pub(crate) const LABELS: &[Rule] = &[
         ],
         unless: &[],
     },
-    Rule {
+    Remark {
         saying: Saying::Plain(VALUE),
         when: &[Test::Is(Spot::Before(1), &["case"])],
         unless: &[Test::Is(Spot::Before(0), CHOICES)],
     },
-    Rule {
+    Remark {
         saying: Saying::Plain(VALUE),
         when: &[Test::Is(Spot::Before(2), &["case"])],
         unless: &[Test::Is(Spot::Before(0), CHOICES)],
     },
-    Rule {
+    Remark {
         saying: Saying::Plain(VALUE),
         when: &[
             Test::Is(Spot::Before(2), &["-"]),
@@ -71,7 +71,7 @@ pub(crate) const LABELS: &[Rule] = &[
         ],
         unless: &[Test::Is(Spot::Before(0), CHOICES)],
     },
-    Rule {
+    Remark {
         saying: Saying::Plain(BODY),
         when: &[
             Test::Is(Spot::Before(1), &[")"]),

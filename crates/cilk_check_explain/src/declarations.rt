@@ -1,6 +1,6 @@
 //! Declarations, and heads of functions, that cannot stand where they do or are not written so.
 
-use crate::rules::{Rule, Saying, Sort, Spot, Test};
+use crate::remarks::{Remark, Saying, Sort, Spot, Test};
 
 const FOR_VARIABLE: &str =
     " cannot stand here, since a `for` declares no variable: write `int $;` at the head of the block, and `for ($ = ..`";
@@ -61,8 +61,8 @@ const MAIN: &str =
     " cannot stand here, since these are the parameters of a Cilk procedure: write `cilk int main(int argc, char *argv[])`";
 
 /// Why the token is no length of an array.
-pub(crate) const LENGTHS: &[Rule] = &[
-    Rule {
+pub(crate) const LENGTHS: &[Remark] = &[
+    Remark {
         saying: Saying::Plain(LENGTH_MISSING),
         when: &[
             Test::Is(Spot::Opener(0), &["["]),
@@ -71,7 +71,7 @@ pub(crate) const LENGTHS: &[Rule] = &[
         ],
         unless: &[Test::Has("=")],
     },
-    Rule {
+    Remark {
         saying: Saying::Plain(LENGTH),
         when: &[
             Test::Is(Spot::Opener(0), &["["]),
@@ -82,8 +82,8 @@ pub(crate) const LENGTHS: &[Rule] = &[
 ];
 
 /// Why a word that declares cannot stand here.
-pub(crate) const DECLARING_WORDS: &[Rule] = &[
-    Rule {
+pub(crate) const DECLARING_WORDS: &[Remark] = &[
+    Remark {
         saying: Saying::Named(FOR_VARIABLE, Spot::Behind(1)),
         when: &[
             Test::Is(Spot::Before(0), &["int"]),
@@ -92,7 +92,7 @@ pub(crate) const DECLARING_WORDS: &[Rule] = &[
         ],
         unless: &[],
     },
-    Rule {
+    Remark {
         saying: Saying::Named(INLET_RESULT, Spot::Behind(1)),
         when: &[
             Test::Is(Spot::Before(0), &["int"]),
@@ -100,7 +100,7 @@ pub(crate) const DECLARING_WORDS: &[Rule] = &[
         ],
         unless: &[],
     },
-    Rule {
+    Remark {
         saying: Saying::Plain(BEHIND_STATEMENT),
         when: &[
             Test::Is(Spot::Before(0), &["int"]),
@@ -109,7 +109,7 @@ pub(crate) const DECLARING_WORDS: &[Rule] = &[
         ],
         unless: &[],
     },
-    Rule {
+    Remark {
         saying: Saying::Plain(AS_STATEMENT),
         when: &[
             Test::Is(Spot::Before(0), &["int"]),
@@ -118,12 +118,12 @@ pub(crate) const DECLARING_WORDS: &[Rule] = &[
         ],
         unless: &[],
     },
-    Rule {
+    Remark {
         saying: Saying::Plain(INLET_BEHIND_STATEMENT),
         when: &[Test::Is(Spot::Before(0), &["inlet"])],
         unless: &[],
     },
-    Rule {
+    Remark {
         saying: Saying::Plain(LOCK_IN_BODY),
         when: &[
             Test::Is(Spot::Before(0), &["Cilk_lockvar"]),
@@ -131,7 +131,7 @@ pub(crate) const DECLARING_WORDS: &[Rule] = &[
         ],
         unless: &[],
     },
-    Rule {
+    Remark {
         saying: Saying::Named(EMPTY_ARGUMENTS, Spot::Before(2)),
         when: &[
             Test::Is(Spot::Before(0), &["void"]),
@@ -142,20 +142,20 @@ pub(crate) const DECLARING_WORDS: &[Rule] = &[
 ];
 
 /// Why a word of the language is no name here.
-pub(crate) const NO_NAMES: &[Rule] = &[Rule {
+pub(crate) const NO_NAMES: &[Remark] = &[Remark {
     saying: Saying::Plain(WORD_AS_NAME),
     when: &[Test::Is(Spot::Before(1), &["int", "void", "spawn", "Cilk_lockvar"])],
     unless: &[],
 }];
 
 /// Why no bracket can open here.
-pub(crate) const BRACKETS: &[Rule] = &[
-    Rule {
+pub(crate) const BRACKETS: &[Remark] = &[
+    Remark {
         saying: Saying::Plain(DIMENSION),
         when: &[Test::Is(Spot::Before(1), &["]"])],
         unless: &[],
     },
-    Rule {
+    Remark {
         saying: Saying::Plain(ARRAY_PARAMETER),
         when: &[
             Test::Is(Spot::Begin(0), &["int", "void", "cilk", "inlet"]),
@@ -166,7 +166,7 @@ pub(crate) const BRACKETS: &[Rule] = &[
 ];
 
 /// Why a body cannot open here.
-pub(crate) const BODIES: &[Rule] = &[Rule {
+pub(crate) const BODIES: &[Remark] = &[Remark {
     saying: Saying::Named(NO_PARAMETERS, Spot::Before(1)),
     when: &[Test::Sorted(Spot::Before(1), Sort::Name)],
     unless: &[
@@ -176,13 +176,13 @@ pub(crate) const BODIES: &[Rule] = &[Rule {
 }];
 
 /// Why a name cannot stand here, where something is declared.
-pub(crate) const NAMES: &[Rule] = &[
-    Rule {
+pub(crate) const NAMES: &[Remark] = &[
+    Remark {
         saying: Saying::Named(NO_RESULT_OF_PROCEDURE, Spot::Before(0)),
         when: &[Test::Is(Spot::Before(1), &["cilk"])],
         unless: &[],
     },
-    Rule {
+    Remark {
         saying: Saying::Plain(NO_TYPE),
         when: &[
             Test::Same(Spot::Before(0), Spot::Begin(0)),
@@ -190,7 +190,7 @@ pub(crate) const NAMES: &[Rule] = &[
         ],
         unless: &[Test::Is(Spot::Brace, &["{"])],
     },
-    Rule {
+    Remark {
         saying: Saying::Named(NO_RESULT, Spot::Before(0)),
         when: &[
             Test::Same(Spot::Before(0), Spot::Begin(0)),
@@ -198,7 +198,7 @@ pub(crate) const NAMES: &[Rule] = &[
         ],
         unless: &[Test::Is(Spot::Brace, &["{"])],
     },
-    Rule {
+    Remark {
         saying: Saying::Named(UNTYPED, Spot::Before(0)),
         when: &[
             Test::Is(Spot::Begin(0), &["int", "void", "cilk", "inlet"]),
@@ -207,12 +207,12 @@ pub(crate) const NAMES: &[Rule] = &[
         ],
         unless: &[Test::Has("=")],
     },
-    Rule {
+    Remark {
         saying: Saying::Plain(GLOBAL_INITIALISER),
         when: &[Test::Is(Spot::Before(1), &["="])],
         unless: &[Test::Is(Spot::Brace, &["{"])],
     },
-    Rule {
+    Remark {
         saying: Saying::Named(BEHIND_NO_TYPE, Spot::Before(1)),
         when: &[
             Test::Sorted(Spot::Before(1), Sort::Name),
@@ -223,7 +223,7 @@ pub(crate) const NAMES: &[Rule] = &[
 ];
 
 /// What is said of a `main` that is told of the command line and lacks the word `cilk`.
-pub(crate) const MAINS: &[Rule] = &[Rule {
+pub(crate) const MAINS: &[Remark] = &[Remark {
     saying: Saying::Plain(MAIN),
     when: &[
         Test::Is(Spot::Begin(0), &["int"]),

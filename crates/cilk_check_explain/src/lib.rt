@@ -19,7 +19,7 @@ mod meant;
 mod missing;
 mod operators;
 mod reason;
-mod rules;
+mod remarks;
 mod say;
 mod search;
 mod sentences;

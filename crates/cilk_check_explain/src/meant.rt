@@ -3,7 +3,7 @@
 use crate::declared::Declared;
 use crate::front::Front;
 use crate::reason::Reason;
-use crate::rules::{Rule, Saying, Spot, Test};
+use crate::remarks::{Remark, Saying, Spot, Test};
 use crate::say::say;
 use crate::search::meaning;
 use crate::site::Site;
@@ -23,8 +23,8 @@ const ELEMENTS: &str = ": the elements of an array are used, as `$[0]`, and not 
 const CALL_FOR_VALUE: &str = ": the value of a function is had by a call, as in `x = $(..);`";
 
 // What is needed at the place of a name: the tokens around it say so (Cilk 5.4 manual, locks).
-const NEEDED: &[Rule] = &[
-    Rule {
+const NEEDED: &[Remark] = &[
+    Remark {
         saying: Saying::Plain("another Cilk procedure than `main`"),
         when: &[
             Test::Is(Spot::Behind(1), &["("]),
@@ -33,7 +33,7 @@ const NEEDED: &[Rule] = &[
         ],
         unless: &[],
     },
-    Rule {
+    Remark {
         saying: Saying::Plain("a Cilk procedure"),
         when: &[
             Test::Is(Spot::Behind(1), &["("]),
@@ -41,7 +41,7 @@ const NEEDED: &[Rule] = &[
         ],
         unless: &[],
     },
-    Rule {
+    Remark {
         saying: Saying::Plain("an inlet"),
         when: &[
             Test::Is(Spot::Behind(1), &["("]),
@@ -49,17 +49,17 @@ const NEEDED: &[Rule] = &[
         ],
         unless: &[],
     },
-    Rule {
+    Remark {
         saying: Saying::Plain("a C function"),
         when: &[Test::Is(Spot::Behind(1), &["("])],
         unless: &[],
     },
-    Rule {
+    Remark {
         saying: Saying::Plain("an array"),
         when: &[Test::Is(Spot::Behind(1), &["["])],
         unless: &[],
     },
-    Rule {
+    Remark {
         saying: Saying::Plain("a lock"),
         when: &[
             Test::Is(Spot::Before(1), &["("]),
@@ -73,13 +73,13 @@ const NEEDED: &[Rule] = &[
 ];
 
 // What is to be written in place of a C function.
-const FOR_FUNCTION: &[Rule] = &[
-    Rule {
+const FOR_FUNCTION: &[Remark] = &[
+    Remark {
         saying: Saying::Plain(CALLED),
         when: &[Test::Is(Spot::Before(1), &["spawn"])],
         unless: &[],
     },
-    Rule {
+    Remark {
         saying: Saying::Plain(CALL_FOR_VALUE),
         when: &[],
         unless: &[Test::Is(Spot::Behind(1), &["("])],
@@ -87,18 +87,18 @@ const FOR_FUNCTION: &[Rule] = &[
 ];
 
 // The same for a Cilk procedure.
-const FOR_PROCEDURE: &[Rule] = &[
-    Rule {
+const FOR_PROCEDURE: &[Remark] = &[
+    Remark {
         saying: Saying::Plain(""),
         when: &[Test::Is(Spot::Before(1), &["spawn"])],
         unless: &[],
     },
-    Rule {
+    Remark {
         saying: Saying::Plain(SPAWNED),
         when: &[Test::Is(Spot::Behind(1), &["("])],
         unless: &[Test::Is(Spot::Before(1), ASSIGNING)],
     },
-    Rule {
+    Remark {
         saying: Saying::Plain(SPAWNED_FOR_VALUE),
         when: &[],
         unless: &[],
@@ -106,15 +106,15 @@ const FOR_PROCEDURE: &[Rule] = &[
 ];
 
 // The same for an array.
-const FOR_ARRAY: &[Rule] = &[Rule {
+const FOR_ARRAY: &[Remark] = &[Remark {
     saying: Saying::Plain(ELEMENTS),
     when: &[],
     unless: &[Test::Is(Spot::Behind(1), &["("])],
 }];
 
-// What the first of these rules says that holds.
-fn words_in(front: &Front<'_>, rules: &'static [Rule]) -> Option<&'static str> {
-    match front.rule_in(rules)?.saying {
+// What the first of these remarks says that holds.
+fn words_in(front: &Front<'_>, remarks: &'static [Remark]) -> Option<&'static str> {
+    match front.remark_in(remarks)?.saying {
         Saying::Plain(words) | Saying::Named(words, _) | Saying::Call(words, _) => Some(words),
     }
 }
@@ -144,13 +144,13 @@ pub(crate) fn say_of_name(
 
 // What is to be written in place of a name that is of another kind than is needed.
 fn advice(front: &Front<'_>, kind: DeclarationKind) -> &'static str {
-    let rules = match kind {
+    let remarks = match kind {
         DeclarationKind::Function(_, _) => FOR_FUNCTION,
         DeclarationKind::Procedure(_, _) => FOR_PROCEDURE,
         DeclarationKind::Array(_) => FOR_ARRAY,
         _ => return "",
     };
-    words_in(front, rules).unwrap_or("")
+    words_in(front, remarks).unwrap_or("")
 }
 
 /// C3.

@@ -4,7 +4,7 @@ use crate::braces::margin_of;
 use crate::front::Front;
 use crate::lines::split;
 use crate::reason::Reason;
-use crate::rules::{Rule, Saying, Sort, Spot, Test};
+use crate::remarks::{Remark, Saying, Sort, Spot, Test};
 use cilk_check_scopes::Memory;
 use cilk_parse::{ReadFault, read};
 use std::alloc::{AllocError, Global};
@@ -50,18 +50,18 @@ fn goes_on_with(alloc: Global, front: &Front<'_>, mark: &str) -> Result<bool, Me
 }
 
 // Where no statement can end behind the token before.
-const OPEN_ENDS: &[Rule] = &[
-    Rule {
+const OPEN_ENDS: &[Remark] = &[
+    Remark {
         saying: Saying::Plain(""),
         when: &[Test::Is(Spot::Before(1), &[""])],
         unless: &[],
     },
-    Rule {
+    Remark {
         saying: Saying::Plain(""),
         when: &[Test::Sorted(Spot::Before(1), Sort::Header)],
         unless: &[],
     },
-    Rule {
+    Remark {
         saying: Saying::Plain(""),
         when: &[Test::Sorted(Spot::Before(1), Sort::Mark)],
         unless: &[Test::Is(Spot::Before(1), &[")", "]", "++", "--"])],
@@ -101,7 +101,7 @@ fn opens_body(front: &Front<'_>) -> bool {
 
 /// The mark that is missing before the token. None where none is known with which the text goes on.
 pub(crate) fn missing(alloc: Global, front: &Front<'_>) -> Result<Option<&'static str>, Memory> {
-    if front.rule_in(OPEN_ENDS).is_some() {
+    if front.remark_in(OPEN_ENDS).is_some() {
         return Ok(None);
     }
     for mark in marks(front) {

@@ -1,6 +1,6 @@
 //! Marks that cannot stand where they do.
 
-use crate::rules::{Rule, Saying, Sort, Spot, Test};
+use crate::remarks::{Remark, Saying, Sort, Spot, Test};
 use crate::words::{ASSIGNING, TESTING};
 
 const COMMENT: &str =
@@ -53,8 +53,8 @@ const LABEL: &str =
     " makes a label, and this language leaves labels and `goto` out: loops take their place, with `break` and `continue`";
 
 /// Where a comment of the kind that the language leaves out begins.
-pub(crate) const COMMENTS: &[Rule] = &[
-    Rule {
+pub(crate) const COMMENTS: &[Remark] = &[
+    Remark {
         saying: Saying::Plain(COMMENT),
         when: &[
             Test::Is(Spot::Before(0), &["/"]),
@@ -62,7 +62,7 @@ pub(crate) const COMMENTS: &[Rule] = &[
         ],
         unless: &[],
     },
-    Rule {
+    Remark {
         saying: Saying::Plain(COMMENT),
         when: &[
             Test::Is(Spot::Before(0), &["/"]),
@@ -73,8 +73,8 @@ pub(crate) const COMMENTS: &[Rule] = &[
 ];
 
 /// Why an operator or a separator cannot stand here.
-pub(crate) const OPERATORS: &[Rule] = &[
-    Rule {
+pub(crate) const OPERATORS: &[Remark] = &[
+    Remark {
         saying: Saying::Plain(ARROW),
         when: &[
             Test::Is(Spot::Before(0), &[">"]),
@@ -82,7 +82,7 @@ pub(crate) const OPERATORS: &[Rule] = &[
         ],
         unless: &[],
     },
-    Rule {
+    Remark {
         saying: Saying::Plain(ARROW),
         when: &[
             Test::Is(Spot::Before(0), &["-"]),
@@ -90,7 +90,7 @@ pub(crate) const OPERATORS: &[Rule] = &[
         ],
         unless: &[],
     },
-    Rule {
+    Remark {
         saying: Saying::Plain(ADDRESS),
         when: &[Test::Is(Spot::Before(0), &["&"])],
         unless: &[
@@ -99,7 +99,7 @@ pub(crate) const OPERATORS: &[Rule] = &[
             Test::Is(Spot::Before(1), &[")", "]", "++", "--"]),
         ],
     },
-    Rule {
+    Remark {
         saying: Saying::Plain(POINTER_PARAMETER),
         when: &[
             Test::Is(Spot::Before(0), &["*"]),
@@ -110,7 +110,7 @@ pub(crate) const OPERATORS: &[Rule] = &[
             Test::Is(Spot::Before(1), &[")", "]", "++", "--"]),
         ],
     },
-    Rule {
+    Remark {
         saying: Saying::Plain(POINTER),
         when: &[Test::Is(Spot::Before(0), &["*"])],
         unless: &[
@@ -118,7 +118,7 @@ pub(crate) const OPERATORS: &[Rule] = &[
             Test::Is(Spot::Before(1), &[")", "]", "++", "--"]),
         ],
     },
-    Rule {
+    Remark {
         saying: Saying::Plain(ARRAY_INITIALISER),
         when: &[
             Test::Is(Spot::Before(0), ASSIGNING),
@@ -127,7 +127,7 @@ pub(crate) const OPERATORS: &[Rule] = &[
         ],
         unless: &[],
     },
-    Rule {
+    Remark {
         saying: Saying::Named(SPAWN_ASSIGNED, Spot::Before(1)),
         when: &[
             Test::Is(Spot::Before(0), ASSIGNING),
@@ -135,7 +135,7 @@ pub(crate) const OPERATORS: &[Rule] = &[
         ],
         unless: &[],
     },
-    Rule {
+    Remark {
         saying: Saying::Plain(ASSIGNING_TEST),
         when: &[
             Test::Is(Spot::Before(0), ASSIGNING),
@@ -143,17 +143,17 @@ pub(crate) const OPERATORS: &[Rule] = &[
         ],
         unless: &[],
     },
-    Rule {
+    Remark {
         saying: Saying::Plain(ASSIGNING_AGAIN),
         when: &[Test::Is(Spot::Before(0), ASSIGNING), Test::Has("=")],
         unless: &[],
     },
-    Rule {
+    Remark {
         saying: Saying::Plain(ASSIGNED_WITHIN),
         when: &[Test::Is(Spot::Before(0), ASSIGNING)],
         unless: &[],
     },
-    Rule {
+    Remark {
         saying: Saying::Plain(LABEL),
         when: &[
             Test::Is(Spot::Before(0), &[":"]),
@@ -163,7 +163,7 @@ pub(crate) const OPERATORS: &[Rule] = &[
         ],
         unless: &[],
     },
-    Rule {
+    Remark {
         saying: Saying::Plain(LABEL),
         when: &[
             Test::Is(Spot::Before(0), &[":"]),
@@ -174,7 +174,7 @@ pub(crate) const OPERATORS: &[Rule] = &[
         ],
         unless: &[],
     },
-    Rule {
+    Remark {
         saying: Saying::Plain(COMPARING),
         when: &[
             Test::Is(Spot::Before(0), &["=="]),
@@ -184,7 +184,7 @@ pub(crate) const OPERATORS: &[Rule] = &[
         ],
         unless: &[],
     },
-    Rule {
+    Remark {
         saying: Saying::Plain(COMPARING),
         when: &[
             Test::Is(Spot::Before(0), &["=="]),
@@ -195,7 +195,7 @@ pub(crate) const OPERATORS: &[Rule] = &[
         ],
         unless: &[],
     },
-    Rule {
+    Remark {
         saying: Saying::Plain(COMPUTING),
         when: &[
             Test::Is(
@@ -208,7 +208,7 @@ pub(crate) const OPERATORS: &[Rule] = &[
         ],
         unless: &[],
     },
-    Rule {
+    Remark {
         saying: Saying::Plain(COMPUTING),
         when: &[
             Test::Is(
@@ -222,12 +222,12 @@ pub(crate) const OPERATORS: &[Rule] = &[
         ],
         unless: &[],
     },
-    Rule {
+    Remark {
         saying: Saying::Plain(STEP),
         when: &[Test::Is(Spot::Before(0), &["++", "--"])],
         unless: &[],
     },
-    Rule {
+    Remark {
         saying: Saying::Plain(COMMA_IN_HEADER),
         when: &[
             Test::Is(Spot::Before(0), &[","]),
@@ -235,7 +235,7 @@ pub(crate) const OPERATORS: &[Rule] = &[
         ],
         unless: &[],
     },
-    Rule {
+    Remark {
         saying: Saying::Plain(COMMA),
         when: &[
             Test::Is(Spot::Before(0), &[","]),
@@ -243,12 +243,12 @@ pub(crate) const OPERATORS: &[Rule] = &[
         ],
         unless: &[],
     },
-    Rule {
+    Remark {
         saying: Saying::Plain(COMMA_OF_STATEMENTS),
         when: &[Test::Is(Spot::Before(0), &[","]), Test::Has("=")],
         unless: &[Test::Is(Spot::Begin(0), &["int"])],
     },
-    Rule {
+    Remark {
         saying: Saying::Plain(COMMA),
         when: &[Test::Is(Spot::Before(0), &[","])],
         unless: &[],

@@ -1,7 +1,7 @@
 //! Spawns and calls that stand within something else, or have something else behind them.
 
 use crate::front::Front;
-use crate::rules::{Rule, Saying, Sort, Spot, Test};
+use crate::remarks::{Remark, Saying, Sort, Spot, Test};
 use crate::source::Source;
 use crate::words::{ASSIGNING, TESTING};
 use cilk_lex::{Keyword, TokenKind};
@@ -65,28 +65,28 @@ const SPAWN_OF_NOTHING: &str =
     " cannot stand behind `spawn`: the name of a procedure does, as in `spawn f(..);`";
 
 /// Why no `spawn` can stand here.
-pub(crate) const SPAWNS: &[Rule] = &[
-    Rule {
+pub(crate) const SPAWNS: &[Remark] = &[
+    Remark {
         saying: Saying::Plain(SPAWN_AGAIN),
         when: &[Test::Has("spawn")],
         unless: &[],
     },
-    Rule {
+    Remark {
         saying: Saying::Plain(SPAWN_IN_RETURN),
         when: &[Test::Is(Spot::Begin(0), &["return"])],
         unless: &[],
     },
-    Rule {
+    Remark {
         saying: Saying::Plain(SPAWN_IN_DECLARATION),
         when: &[Test::Is(Spot::Begin(0), &["int"])],
         unless: &[],
     },
-    Rule {
+    Remark {
         saying: Saying::Plain(SPAWN_IN_TEST),
         when: &[Test::Is(Spot::Opener(1), TESTING)],
         unless: &[],
     },
-    Rule {
+    Remark {
         saying: Saying::Plain(SPAWN_AMONG),
         when: &[
             Test::Is(Spot::Opener(0), &["("]),
@@ -94,7 +94,7 @@ pub(crate) const SPAWNS: &[Rule] = &[
         ],
         unless: &[],
     },
-    Rule {
+    Remark {
         saying: Saying::Plain(SPAWN_WITHIN),
         when: &[],
         unless: &[],
@@ -102,13 +102,13 @@ pub(crate) const SPAWNS: &[Rule] = &[
 ];
 
 /// Why no parenthesis can open here, behind a name or a word.
-pub(crate) const CALLS: &[Rule] = &[
-    Rule {
+pub(crate) const CALLS: &[Remark] = &[
+    Remark {
         saying: Saying::Plain(PRINTF),
         when: &[Test::Is(Spot::Before(1), &["printf"])],
         unless: &[],
     },
-    Rule {
+    Remark {
         saying: Saying::Call(CALL_IN_RETURN, Spot::Before(1)),
         when: &[
             Test::Sorted(Spot::Before(1), Sort::Name),
@@ -116,7 +116,7 @@ pub(crate) const CALLS: &[Rule] = &[
         ],
         unless: &[],
     },
-    Rule {
+    Remark {
         saying: Saying::Call(CALL_IN_DECLARATION, Spot::Before(1)),
         when: &[
             Test::Sorted(Spot::Before(1), Sort::Name),
@@ -124,7 +124,7 @@ pub(crate) const CALLS: &[Rule] = &[
         ],
         unless: &[],
     },
-    Rule {
+    Remark {
         saying: Saying::Call(CALL_IN_TEST, Spot::Before(1)),
         when: &[
             Test::Sorted(Spot::Before(1), Sort::Name),
@@ -132,7 +132,7 @@ pub(crate) const CALLS: &[Rule] = &[
         ],
         unless: &[],
     },
-    Rule {
+    Remark {
         saying: Saying::Call(CALL_AMONG, Spot::Before(1)),
         when: &[
             Test::Sorted(Spot::Before(1), Sort::Name),
@@ -141,17 +141,17 @@ pub(crate) const CALLS: &[Rule] = &[
         ],
         unless: &[],
     },
-    Rule {
+    Remark {
         saying: Saying::Call(CALL_WITHIN, Spot::Before(1)),
         when: &[Test::Sorted(Spot::Before(1), Sort::Name)],
         unless: &[],
     },
-    Rule {
+    Remark {
         saying: Saying::Named(NO_CALL, Spot::Before(1)),
         when: &[Test::Is(Spot::Before(1), &["sync", "abort", "break", "continue"])],
         unless: &[],
     },
-    Rule {
+    Remark {
         saying: Saying::Plain(SPAWN_OF_NOTHING),
         when: &[Test::Is(Spot::Before(1), &["spawn"])],
         unless: &[],
@@ -159,8 +159,8 @@ pub(crate) const CALLS: &[Rule] = &[
 ];
 
 /// Why no mark can stand here, behind a whole call or spawn.
-pub(crate) const BEHIND_CALLS: &[Rule] = &[
-    Rule {
+pub(crate) const BEHIND_CALLS: &[Remark] = &[
+    Remark {
         saying: Saying::Plain(BEHIND_TWO_SPAWNS),
         when: &[
             Test::Is(Spot::Before(1), &[")"]),
@@ -169,7 +169,7 @@ pub(crate) const BEHIND_CALLS: &[Rule] = &[
         ],
         unless: &[],
     },
-    Rule {
+    Remark {
         saying: Saying::Named(BEHIND_SPAWN, Spot::Group(1)),
         when: &[
             Test::Is(Spot::Before(1), &[")"]),
@@ -177,7 +177,7 @@ pub(crate) const BEHIND_CALLS: &[Rule] = &[
         ],
         unless: &[],
     },
-    Rule {
+    Remark {
         saying: Saying::Call(BEHIND_CALL, Spot::Group(1)),
         when: &[
             Test::Is(Spot::Before(1), &[")"]),

@@ -1,6 +1,6 @@
 //! Parts of statements that cannot stand where they do.
 
-use crate::rules::{Rule, Saying, Sort, Spot, Test};
+use crate::remarks::{Remark, Saying, Sort, Spot, Test};
 use crate::words::TESTING;
 
 const TEST_IN_PARENTHESES: &str =
@@ -60,8 +60,8 @@ const NO_TEXT: &str =
 const HEADER: &str = " cannot stand here, since headers are included before all else";
 
 /// Why a word that begins a statement cannot stand here.
-pub(crate) const STATEMENT_WORDS: &[Rule] = &[
-    Rule {
+pub(crate) const STATEMENT_WORDS: &[Remark] = &[
+    Remark {
         saying: Saying::Plain(OUTSIDE_BEHIND),
         when: &[
             Test::Same(Spot::Before(0), Spot::Begin(0)),
@@ -75,7 +75,7 @@ pub(crate) const STATEMENT_WORDS: &[Rule] = &[
             ),
         ],
     },
-    Rule {
+    Remark {
         saying: Saying::Plain(OUTSIDE),
         when: &[Test::Same(Spot::Before(0), Spot::Begin(0))],
         unless: &[
@@ -86,7 +86,7 @@ pub(crate) const STATEMENT_WORDS: &[Rule] = &[
             ),
         ],
     },
-    Rule {
+    Remark {
         saying: Saying::Plain(ELSE_BEHIND_NOTHING),
         when: &[
             Test::Is(Spot::Before(0), &["else"]),
@@ -95,7 +95,7 @@ pub(crate) const STATEMENT_WORDS: &[Rule] = &[
         ],
         unless: &[],
     },
-    Rule {
+    Remark {
         saying: Saying::Plain(ELSE_BEHIND_TWO),
         when: &[
             Test::Is(Spot::Before(0), &["else"]),
@@ -103,7 +103,7 @@ pub(crate) const STATEMENT_WORDS: &[Rule] = &[
         ],
         unless: &[],
     },
-    Rule {
+    Remark {
         saying: Saying::Plain(ELSE),
         when: &[
             Test::Is(Spot::Before(0), &["else"]),
@@ -114,13 +114,13 @@ pub(crate) const STATEMENT_WORDS: &[Rule] = &[
 ];
 
 /// Why a name or a number cannot stand here, in a statement.
-pub(crate) const OPERANDS: &[Rule] = &[
-    Rule {
+pub(crate) const OPERANDS: &[Remark] = &[
+    Remark {
         saying: Saying::Named(TEST_IN_PARENTHESES, Spot::Before(1)),
         when: &[Test::Is(Spot::Before(1), TESTING)],
         unless: &[],
     },
-    Rule {
+    Remark {
         saying: Saying::Plain(NO_TEXT),
         when: &[
             Test::Is(Spot::Before(1), &["("]),
@@ -128,7 +128,7 @@ pub(crate) const OPERANDS: &[Rule] = &[
         ],
         unless: &[],
     },
-    Rule {
+    Remark {
         saying: Saying::Plain(OUTSIDE_BEHIND),
         when: &[
             Test::Same(Spot::Before(0), Spot::Begin(0)),
@@ -136,12 +136,12 @@ pub(crate) const OPERANDS: &[Rule] = &[
         ],
         unless: &[Test::Is(Spot::Brace, &["{"])],
     },
-    Rule {
+    Remark {
         saying: Saying::Plain(OUTSIDE),
         when: &[Test::Same(Spot::Before(0), Spot::Begin(0))],
         unless: &[Test::Is(Spot::Brace, &["{"])],
     },
-    Rule {
+    Remark {
         saying: Saying::Plain(NUMBER_FIRST),
         when: &[
             Test::Sorted(Spot::Before(0), Sort::Number),
@@ -152,23 +152,23 @@ pub(crate) const OPERANDS: &[Rule] = &[
 ];
 
 /// Why a text literal or a header cannot stand here.
-pub(crate) const TEXT_RULES: &[Rule] = &[
-    Rule {
+pub(crate) const TEXT_REMARKS: &[Remark] = &[
+    Remark {
         saying: Saying::Plain(HEADER),
         when: &[Test::Sorted(Spot::Before(0), Sort::Header)],
         unless: &[],
     },
-    Rule {
+    Remark {
         saying: Saying::Plain(TEXTS),
         when: &[Test::Sorted(Spot::Before(1), Sort::Text)],
         unless: &[],
     },
-    Rule {
+    Remark {
         saying: Saying::Named(TEXT_OF_ANOTHER, Spot::Before(2)),
         when: &[Test::Is(Spot::Before(1), &["("])],
         unless: &[],
     },
-    Rule {
+    Remark {
         saying: Saying::Plain(TEXT),
         when: &[],
         unless: &[],
@@ -176,28 +176,28 @@ pub(crate) const TEXT_RULES: &[Rule] = &[
 ];
 
 /// Why what ends or closes something cannot stand here.
-pub(crate) const ENDS: &[Rule] = &[
-    Rule {
+pub(crate) const ENDS: &[Remark] = &[
+    Remark {
         saying: Saying::Plain(HEADER_TOO_SHORT),
         when: &[Test::Is(Spot::Before(0), &[")"]), Test::Parts(0)],
         unless: &[],
     },
-    Rule {
+    Remark {
         saying: Saying::Plain(HEADER_TOO_SHORT),
         when: &[Test::Is(Spot::Before(0), &[")"]), Test::Parts(1)],
         unless: &[],
     },
-    Rule {
+    Remark {
         saying: Saying::Plain(HEADER_TOO_LONG),
         when: &[Test::Is(Spot::Before(0), &[";"]), Test::Parts(2)],
         unless: &[],
     },
-    Rule {
+    Remark {
         saying: Saying::Named(VALUE_WANTED, Spot::Before(1)),
         when: &[Test::Sorted(Spot::Before(1), Sort::Mark)],
         unless: &[Test::Is(Spot::Before(1), &[")", "]", "}", "{", ";", "++", "--"])],
     },
-    Rule {
+    Remark {
         saying: Saying::Plain(BEHIND_BODY),
         when: &[
             Test::Is(Spot::Before(0), &[";"]),
@@ -205,7 +205,7 @@ pub(crate) const ENDS: &[Rule] = &[
         ],
         unless: &[Test::Is(Spot::Brace, &["{"])],
     },
-    Rule {
+    Remark {
         saying: Saying::Named(SPAWN_WITHOUT_ARGUMENTS, Spot::Before(1)),
         when: &[
             Test::Is(Spot::Before(0), &[";"]),
@@ -214,7 +214,7 @@ pub(crate) const ENDS: &[Rule] = &[
         ],
         unless: &[],
     },
-    Rule {
+    Remark {
         saying: Saying::Named(NAME_ALONE, Spot::Before(1)),
         when: &[
             Test::Is(Spot::Before(0), &[";"]),
@@ -223,7 +223,7 @@ pub(crate) const ENDS: &[Rule] = &[
         ],
         unless: &[],
     },
-    Rule {
+    Remark {
         saying: Saying::Plain(NOTHING_TO_CLOSE),
         when: &[Test::Is(Spot::Before(0), &["}"])],
         unless: &[
@@ -231,7 +231,7 @@ pub(crate) const ENDS: &[Rule] = &[
             Test::Is(Spot::Before(1), &[""]),
         ],
     },
-    Rule {
+    Remark {
         saying: Saying::Named(BODY_WANTED, Spot::Before(1)),
         when: &[
             Test::Is(Spot::Before(0), &["}"]),
@@ -239,7 +239,7 @@ pub(crate) const ENDS: &[Rule] = &[
         ],
         unless: &[],
     },
-    Rule {
+    Remark {
         saying: Saying::Named(BODY_WANTED, Spot::Group(1)),
         when: &[
             Test::Is(Spot::Before(0), &["}"]),
@@ -248,7 +248,7 @@ pub(crate) const ENDS: &[Rule] = &[
         ],
         unless: &[],
     },
-    Rule {
+    Remark {
         saying: Saying::Plain(NO_PARENTHESIS),
         when: &[Test::Is(Spot::Before(0), &[")"])],
         unless: &[

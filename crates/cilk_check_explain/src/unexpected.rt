@@ -8,11 +8,11 @@ use crate::left_out::{left_out_word, say_left_out};
 use crate::missing::missing;
 use crate::operators::{COMMENTS, OPERATORS};
 use crate::reason::Reason;
-use crate::rules::{Rule, Saying, Spot, Test};
+use crate::remarks::{Remark, Saying, Spot, Test};
 use crate::say::say;
 use crate::source::Source;
 use crate::spawns::{BEHIND_CALLS, CALLS, SPAWNS, instead};
-use crate::statements::{ENDS, OPERANDS, STATEMENT_WORDS, TEXT_RULES};
+use crate::statements::{ENDS, OPERANDS, STATEMENT_WORDS, TEXT_REMARKS};
 use cilk_check_scopes::Memory;
 use cilk_lex::{Keyword, Mark, TokenKind};
 use std::alloc::Global;
@@ -25,13 +25,13 @@ const NESTED: &str =
 const OTHER_END: &str = "The text ends too early: no program ends here";
 
 // Where a function or a procedure begins within a body.
-const FUNCTIONS: &[Rule] = &[
-    Rule {
+const FUNCTIONS: &[Remark] = &[
+    Remark {
         saying: Saying::Plain(""),
         when: &[Test::Is(Spot::Before(0), &["cilk"])],
         unless: &[],
     },
-    Rule {
+    Remark {
         saying: Saying::Plain(""),
         when: &[
             Test::Is(Spot::Before(0), &["void", "int"]),
@@ -39,7 +39,7 @@ const FUNCTIONS: &[Rule] = &[
         ],
         unless: &[],
     },
-    Rule {
+    Remark {
         saying: Saying::Plain(""),
         when: &[Test::Is(Spot::Before(0), &["("]), Test::BeginsFunction],
         unless: &[],
@@ -47,8 +47,8 @@ const FUNCTIONS: &[Rule] = &[
 ];
 
 // Where a word that is left out is not what is wrong: behind the head of a `main` that is told of the command line, and in a comment.
-const SPARED: &[Rule] = &[
-    Rule {
+const SPARED: &[Remark] = &[
+    Remark {
         saying: Saying::Plain(""),
         when: &[
             Test::Is(Spot::Begin(0), &["cilk"]),
@@ -56,7 +56,7 @@ const SPARED: &[Rule] = &[
         ],
         unless: &[Test::Is(Spot::Opener(0), &["(", "["])],
     },
-    Rule {
+    Remark {
         saying: Saying::Plain(""),
         when: &[
             Test::Is(Spot::Before(0), &["/"]),
@@ -64,7 +64,7 @@ const SPARED: &[Rule] = &[
         ],
         unless: &[],
     },
-    Rule {
+    Remark {
         saying: Saying::Plain(""),
         when: &[
             Test::Is(Spot::Before(0), &["/"]),
@@ -85,11 +85,11 @@ pub(crate) fn say_unexpected(
         source,
         index: source.index_of(at),
     };
-    if let Some(rule) = front.rule_in(MAINS) {
-        return say_rule(out, &front, rule);
+    if let Some(remark) = front.remark_in(MAINS) {
+        return say_remark(out, &front, remark);
     }
     match left_out_word(&source, at) {
-        Some(word) if front.rule_in(SPARED).is_none() => say_left_out(out, word),
+        Some(word) if front.remark_in(SPARED).is_none() => say_left_out(out, word),
         _ => match front.kind() {
             Some(_) => say_token(alloc, out, &front),
             None => say_end(alloc, out, &front),
@@ -97,9 +97,9 @@ pub(crate) fn say_unexpected(
     }
 }
 
-fn say_rule(out: &mut String, front: &Front<'_>, rule: &Rule) -> Result<(), Memory> {
+fn say_remark(out: &mut String, front: &Front<'_>, remark: &Remark) -> Result<(), Memory> {
     Reason::named("`$`", front.word()).say(out)?;
-    let reason = match rule.saying {
+    let reason = match remark.saying {
         Saying::Plain(words) => Reason::numbered(words, front.line_before()),
         Saying::Named(words, spot) => Reason::named(words, front.spelled(spot)),
         Saying::Call(words, spot) => {
@@ -116,8 +116,8 @@ fn say_token(alloc: Global, out: &mut String, front: &Front<'_>) -> Result<(), M
     if is_early && say_missing(alloc, out, front)? {
         return Ok(());
     }
-    if let Some(rule) = rule_of(front) {
-        return say_rule(out, front, rule);
+    if let Some(remark) = remark_of(front) {
+        return say_remark(out, front, remark);
     }
     if !is_early && say_missing(alloc, out, front)? {
         return Ok(());
@@ -146,45 +146,45 @@ fn say_missing(alloc: Global, out: &mut String, front: &Front<'_>) -> Result<boo
     Ok(true)
 }
 
-// The rule by which the token cannot stand here. None where nothing more is known.
-fn rule_of(front: &Front<'_>) -> Option<&'static Rule> {
-    let sooner = front.rule_in(LENGTHS).or(front.rule_in(LABELS));
+// The remark by which the token cannot stand here. None where nothing more is known.
+fn remark_of(front: &Front<'_>) -> Option<&'static Remark> {
+    let sooner = front.remark_in(LENGTHS).or(front.remark_in(LABELS));
     if sooner.is_some() {
         return sooner;
     }
     match front.kind()? {
-        TokenKind::Word(Keyword::Spawn) => front.rule_in(SPAWNS),
+        TokenKind::Word(Keyword::Spawn) => front.remark_in(SPAWNS),
         TokenKind::Word(_) => front
-            .rule_in(DECLARING_WORDS)
-            .or(front.rule_in(STATEMENT_WORDS))
-            .or(front.rule_in(NO_NAMES)),
+            .remark_in(DECLARING_WORDS)
+            .or(front.remark_in(STATEMENT_WORDS))
+            .or(front.remark_in(NO_NAMES)),
         TokenKind::Mark(mark) => of_mark(front, mark),
-        TokenKind::Name => front.rule_in(NAMES).or(front.rule_in(OPERANDS)),
-        TokenKind::Number(_) => front.rule_in(OPERANDS),
-        TokenKind::Text | TokenKind::Include(_) => front.rule_in(TEXT_RULES),
+        TokenKind::Name => front.remark_in(NAMES).or(front.remark_in(OPERANDS)),
+        TokenKind::Number(_) => front.remark_in(OPERANDS),
+        TokenKind::Text | TokenKind::Include(_) => front.remark_in(TEXT_REMARKS),
     }
 }
 
-fn of_mark(front: &Front<'_>, mark: Mark) -> Option<&'static Rule> {
+fn of_mark(front: &Front<'_>, mark: Mark) -> Option<&'static Remark> {
     match mark {
         Mark::OpenParenthesis if front.begins_function() => None,
-        Mark::OpenParenthesis => front.rule_in(CALLS),
-        Mark::OpenBracket => front.rule_in(BRACKETS),
-        Mark::OpenBrace => front.rule_in(BODIES),
+        Mark::OpenParenthesis => front.remark_in(CALLS),
+        Mark::OpenBracket => front.remark_in(BRACKETS),
+        Mark::OpenBrace => front.remark_in(BODIES),
         Mark::CloseParenthesis | Mark::CloseBracket | Mark::CloseBrace | Mark::Semicolon => {
-            front.rule_in(ENDS)
+            front.remark_in(ENDS)
         }
         _ => front
-            .rule_in(COMMENTS)
-            .or(front.rule_in(OPERATORS))
-            .or(front.rule_in(BEHIND_CALLS)),
+            .remark_in(COMMENTS)
+            .or(front.remark_in(OPERATORS))
+            .or(front.remark_in(BEHIND_CALLS)),
     }
 }
 
 fn say_other(alloc: Global, out: &mut String, front: &Front<'_>) -> Result<(), Memory> {
     Reason::named("`$`", front.word()).say(out)?;
     match front.source.open_brace(front.index) {
-        Some(brace) if front.rule_in(FUNCTIONS).is_some() => say_nested(alloc, out, front, brace),
+        Some(brace) if front.remark_in(FUNCTIONS).is_some() => say_nested(alloc, out, front, brace),
         _ => say(out, OTHER),
     }
 }

@@ -73,14 +73,14 @@ fn opened_of<L: Read + Drop>(
 
 // What the editor is told.
 fn unopened(alloc: Global, names: &FileNames<'_>, why: &RecordFailure) -> Unopened {
-    match line_of(alloc, names, why) {
+    match failure_line(alloc, names, why) {
         Ok(Some(line)) => Unopened::Refused(line),
         Ok(None) | Err(_) => Unopened::Memory,
     }
 }
 
 // The line that tells of a failure, and none of want of memory, by which the line may break off too.
-fn line_of(
+fn failure_line(
     alloc: Global,
     names: &FileNames<'_>,
     why: &RecordFailure,

@@ -10,7 +10,7 @@ use Rattle.cilk_races.specs.Kept.{block_in, children_in, last_by, last_in, path_
 use Rattle.cilk_races.specs.Line.{Line}
 use Rattle.cilk_races.specs.Mixed.{mixed_all}
 use Rattle.cilk_races.specs.Noted.{line_at}
-use Rattle.cilk_races.specs.Ways.{AreKin, above, blocks_up, line_of, lines_of, no_row, path_of, path_up, row_at}
+use Rattle.cilk_races.specs.Ways.{AreKin, above, blocks_up, branch_of, lines_of, no_row, path_of, path_up, row_at}
 use Rattle.cilk_races.proofs.Touched.{blocks-is, children-is, syncs-is}
 use Rattle.cilk_races.proofs.Upwards.{block-at, blocks-size, number-at, path-size, take-way, unlike}
 use Rattle.cilk_races.proofs.Kin.{line-is, path-kept}
@@ -19,7 +19,7 @@ module _ (rows : List Row) (lines : List Line) (is : lines_of rows ≡ lines) wh
   pub path-view : (i : ℕ) → path_in lines i ≡ path_of rows i
   path-view i = ap (λ ls. path_in ls i) (sym is) ∙ path-kept rows i
 
-  line-view : (i : ℕ) → line_at lines i ≡ line_of rows i
+  line-view : (i : ℕ) → line_at lines i ≡ branch_of rows i
   line-view i = ap (λ ls. line_at ls i) (sym is) ∙ line-is rows i
 
   blocks-view : (i at : ℕ) → block_in lines i at ≡ slice_index_or (blocks_up rows (row_at rows i).depth i) at 0

@@ -10,19 +10,19 @@ use Rattle.cilk_races.specs.Kept.{path_in}
 use Rattle.cilk_races.specs.Line.{Line, no_line}
 use Rattle.cilk_races.specs.Mixed.{mixed, mixed_all}
 use Rattle.cilk_races.specs.Noted.{bore, bore_at, child_of, line_at, next, passed, passed_at}
-use Rattle.cilk_races.specs.Ways.{AreKin, blocks_up, line_of, lines_of, no_row, path_of, path_up, row_at}
+use Rattle.cilk_races.specs.Ways.{AreKin, blocks_up, branch_of, lines_of, no_row, path_of, path_up, row_at}
 use Rattle.cilk_races.proofs.Touched.{path-is}
 use Rattle.cilk_races.proofs.Upwards.{mixed-push}
 
 pub lines-size : (rows : List Row) → length (lines_of rows) ≡ length rows
-lines-size rows = length-map-range_with_len (line_of rows) 0 (length rows)
+lines-size rows = length-map-range_with_len (branch_of rows) 0 (length rows)
 
 -- what stands where no instance is tells nothing
-pub line-is : (rows : List Row) (i : ℕ) → line_at (lines_of rows) i ≡ line_of rows i
+pub line-is : (rows : List Row) (i : ℕ) → line_at (lines_of rows) i ≡ branch_of rows i
 line-is rows i = by (cases_lt i (length rows))
   where
-    by : (i < length rows) ⊎ (length rows ≤ i) → line_at (lines_of rows) i ≡ line_of rows i
-    by (inl low) = get_or-map-range_with_len (line_of rows) 0 (length rows) i i no_line low (omega arith)
+    by : (i < length rows) ⊎ (length rows ≤ i) → line_at (lines_of rows) i ≡ branch_of rows i
+    by (inl low) = get_or-map-range_with_len (branch_of rows) 0 (length rows) i i no_line low (omega arith)
     by (inr high) =
         let size = lines-size rows in
         let none : row_at rows i ≡ no_row = get_or_past rows i no_row high in
@@ -65,7 +65,7 @@ module _ (old new : List Row) (kin : AreKin old) (like : (i : ℕ) → i < lengt
   abbrev pub line_with : ℕ → Row → Line
   line_with i row = record { path = path_of old i; blocks = blocks_up old (row_at old i).depth i; syncs = row.syncs; children = row.children }
 
-  line-like : (i : ℕ) → i < length old → line_of new i ≡ line_with i (row_at new i)
+  line-like : (i : ℕ) → i < length old → branch_of new i ≡ line_with i (row_at new i)
   line-like i h =
       let path = path-of-same i h in
       let blocks = ap (λ d. blocks_up new d i) (like i h).depth ∙ blocks-same (row_at old i).depth i h in

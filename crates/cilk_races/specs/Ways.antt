@@ -30,8 +30,8 @@ blocks_up rows (suc depth) i = blocks_up rows depth (row_at rows i).parent ++ (r
 abbrev pub path_of : List Row → ℕ → Path
 path_of rows i = path_up rows (row_at rows i).depth i
 
-abbrev pub line_of : List Row → ℕ → Line
-line_of rows i = record {
+abbrev pub branch_of : List Row → ℕ → Line
+branch_of rows i = record {
   path = path_of rows i;
   blocks = blocks_up rows (row_at rows i).depth i;
   syncs = (row_at rows i).syncs;
@@ -39,7 +39,7 @@ line_of rows i = record {
 }
 
 abbrev pub lines_of : List Row → List Line
-lines_of rows = map (line_of rows) (range_with_len 0 (length rows))
+lines_of rows = map (branch_of rows) (range_with_len 0 (length rows))
 
 -- what holds of those that are kept of a run: each has its parent among them, and the hash of its path
 pub record AreKin (rows : List Row) : Type 0 where

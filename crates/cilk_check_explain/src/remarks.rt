@@ -1,4 +1,4 @@
-//! Rules by which a token cannot stand where it does: what holds of what stands around it, and what is said then.
+//! Remarks on a token that cannot stand where it does: what holds of what stands around it, and what is said then.
 
 use crate::front::Front;
 use crate::words::is_one_of;
@@ -60,7 +60,7 @@ pub(crate) enum Saying {
 }
 
 /// What is said where all of the first tests hold, and none of the others.
-pub(crate) struct Rule {
+pub(crate) struct Remark {
     pub(crate) saying: Saying,
     pub(crate) when: &'static [Test],
     pub(crate) unless: &'static [Test],
@@ -148,11 +148,11 @@ impl<'a> Front<'a> {
         true
     }
 
-    /// The first of these rules that holds of the token.
-    pub(crate) fn rule_in(&self, rules: &'static [Rule]) -> Option<&'static Rule> {
-        for rule in rules {
-            if self.all_are(rule.when, true) && self.all_are(rule.unless, false) {
-                return Some(rule);
+    /// The first of these remarks that holds of the token.
+    pub(crate) fn remark_in(&self, remarks: &'static [Remark]) -> Option<&'static Remark> {
+        for remark in remarks {
+            if self.all_are(remark.when, true) && self.all_are(remark.unless, false) {
+                return Some(remark);
             }
         }
         None
