@@ -7,7 +7,7 @@ use cilk_log_replay::{Refusal, ReplayFault};
 use thiserror::Error;
 
 /// Why a debugger does not do what it is told. What `Display` writes is for who uses this crate, and no clause speaks of it: a session is answered by
-/// `Reply`, and `cilk_program_runs` writes the line of a schedule that cannot be replayed.
+/// `Reply`, and `cilk_program_tapes` writes the line of a schedule that cannot be replayed.
 #[derive(Debug, Drop, Error)]
 pub enum DebugFault {
     /// The schedule tells that it is of another program.

@@ -4,7 +4,7 @@ use cilk_debug_console::InputFault;
 use thiserror::Error;
 
 /// Why a session ends before its input does. What `Display` writes is for who uses this crate, and no clause speaks of it: the program's lines are those
-/// of `RecordFailure` of `cilk_program_runs`.
+/// of `RecordFailure` of `cilk_program_tapes`.
 #[derive(Clone, Copy, Debug, PartialEq, Eq, Error)]
 pub enum SessionFault {
     /// The input is at fault.

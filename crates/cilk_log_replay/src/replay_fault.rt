@@ -4,7 +4,7 @@ use cilk_machine::Refusal;
 use thiserror::Error;
 
 /// Why choices cannot be made again. What `Display` writes is for who uses this crate, and no clause speaks of it: the program's lines are those of
-/// `tell_replay` of `cilk_program_runs`.
+/// `tell_replay` of `cilk_program_tapes`.
 #[derive(Debug, Drop, Error)]
 pub enum ReplayFault {
     /// The schedule tells that it is of another program.

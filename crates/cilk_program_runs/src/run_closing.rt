@@ -1,4 +1,4 @@
-//! How a run by workers ended.
+//! How a run by workers, or by a seed, ended.
 
 ghost use Rattle.std.specs.Prelude.{◌≡◌, true, length, IfOk, IfErr};
 ghost use Rattle.cilk_run.specs.choices.Words.{end_of};

@@ -3,6 +3,8 @@
 ghost use Rattle.std.specs.Prelude.{◌≡◌, option_map};
 ghost use Rattle.cilk_program_runs.specs.AsAsked.{log_name};
 
+use cilk_program_tapes::FileNames;
+
 /// How the program of a text is to be run.
 #[derive(Clone, Copy)]
 pub struct RunTask<'a> {
@@ -34,5 +36,3 @@ impl<'a> RunTask<'a> {
         }
     }
 }
-
-use cilk_program_tapes::FileNames;

@@ -22,7 +22,7 @@ use Rattle.cilk_run.specs.declared.run_result.Run.{Run}
 pub led-counted : (m : Situation) (made : List code.Choice) → IsLedBy m made → m.choices ≡ length made
 led-counted m made l = sym l.led.counted ∙ length-map made choice_of
 
-stands : (m : Situation) (made : List code.Choice) (l : IsLedBy m made) → StandsAt m l.at
+pub stands : (m : Situation) (made : List code.Choice) (l : IsLedBy m made) → StandsAt m l.at
 stands m made l = record { choices = map choice_of made; events = l.events; led = l.led }
 
 -- where it is stuck, some choice is not left

@@ -3,12 +3,15 @@
 ghost use Rattle.std.specs.Prelude.{◌≡◌, ◌≢◌, ◌<◌, ◌⊎◌, Err, IfOk, IfErr, string_bytes};
 ghost use Rattle.cilk_run.specs.choices.Words.{end_of};
 ghost use Rattle.cilk_run.specs.labelled.Bodies.{label};
+ghost use Rattle.cilk_run.specs.machine.Stands.{StandsAt};
+ghost use Rattle.cilk_run.specs.model.End.{end_now};
+ghost use Rattle.cilk_run.specs.model.Run.{Standing};
 ghost use Rattle.cilk_run.specs.Tallied.{end_words, outcome_of};
 ghost use Rattle.cilk_run.specs.Tallying.{outcome_by};
 
-use crate::playing::run_by_seed;
-use crate::run_result::{Run, RunFault};
-use cilk_run_locked::{End, Loaded, Memory, put_trapped};
+use crate::playing::played_by_seed;
+use crate::run_result::RunFault;
+use cilk_run_locked::{End, Loaded, Machine, Memory, put_trapped};
 use std::alloc::Global;
 
 /// What a run printed, and the words of its closing line, without a number of choices.
@@ -34,29 +37,43 @@ pub(crate) fn outcome_of(
         Ok(copy) => copy,
         Err(_) => return Err(RunFault::Memory),
     };
-    let run = match run_by_seed(alloc, copy, workers, seed, limit) {
-        Ok(run) => run,
+    let locked = match played_by_seed(alloc, copy, workers, seed, limit) {
+        Ok(locked) => locked,
         Err(fault) => return Err(fault),
     };
-    let outcome = outcome_in(alloc, &run);
-    drop(run);
-    outcome
+    let outcome = outcome_in(alloc, locked.machine());
+    drop(locked);
+    match outcome {
+        Ok(outcome) => Ok(outcome),
+        Err(_) => Err(RunFault::Memory),
+    }
 }
 
-fn outcome_in(alloc: Global, run: &Run) -> Result<Outcome, RunFault>
-    ensures printed { IfOk result (λ o. o.printed.items ≡ run.now.output) }
-    ensures ended { IfOk result (λ o. string_bytes o.ended ≡ end_words (end_of run.now.end)) }
-    ensures err { IfErr result (λ why. why ≡ RunFault.Memory) }
+// That of a machine, as it stands.
+fn outcome_in(alloc: Global, machine: &Machine) -> Result<Outcome, Memory>
+    ensures printed { IfOk result (λ o. (at : Standing) → StandsAt machine.now at → o.printed.items ≡ at.state.output) }
+    ensures ended { IfOk result (λ o. (at : Standing) → StandsAt machine.now at
+        → string_bytes o.ended ≡ end_words (end_now (label machine.now.program) at)) }
 {
-    let Ok(printed) = Vec::from_slice(alloc, run.output.as_slice()) else {
-        return Err(RunFault::Memory);
-    };
-    match words_of(alloc, &run.end) {
-        Ok(ended) => Ok(Outcome { printed, ended }),
-        Err(_) => {
-            drop(printed);
-            Err(RunFault::Memory)
-        }
+    match Vec::from_slice(alloc, machine.output()) {
+        Err(error) => Err(Memory::from(error)),
+        Ok(printed) => match words_at(alloc, machine) {
+            Ok(ended) => Ok(Outcome { printed, ended }),
+            Err(memory) => {
+                drop(printed);
+                Err(memory)
+            }
+        },
+    }
+}
+
+fn words_at(alloc: Global, machine: &Machine) -> Result<String, Memory>
+    ensures { IfOk result (λ words. (at : Standing) → StandsAt machine.now at
+        → string_bytes words ≡ end_words (end_now (label machine.now.program) at)) }
+{
+    match machine.end_now() {
+        Err(memory) => Err(memory),
+        Ok(end) => words_of(alloc, &end),
     }
 }
 

@@ -31,6 +31,27 @@ pub fn run_by_seed(
     ensures workers { (result ≡ Err RunFault.Workers) ↔ ((workers ≡ 0) ⊎ (64 < workers)) }
     ensures start { result ≢ Err RunFault.Start }
 {
+    match played_by_seed(alloc, program, workers, seed, limit) {
+        Ok(locked) => run_of(alloc, locked, workers, limit),
+        Err(fault) => Err(fault),
+    }
+}
+
+/// The machine, with its history, behind the schedule that a seed names: `run_by_seed` tells a run of it.
+pub(crate) fn played_by_seed(
+    alloc: Global,
+    program: Loaded,
+    workers: u8,
+    seed: u64,
+    limit: u32,
+) -> Result<Locked, RunFault>
+    ensures program { IfOk result (λ l. l.machine.program ≡ program) }
+    ensures crew { IfOk result (λ l. workers_of l.machine ≡ workers) }
+    ensures drawn { IfOk result (λ l. map choice_of l.history ≡ drawn (label program) workers seed limit) }
+    ensures stops { IfOk result (λ l. Stops limit l.machine) }
+    ensures workers { (result ≡ Err RunFault.Workers) ↔ ((workers ≡ 0) ⊎ (64 < workers)) }
+    ensures start { result ≢ Err RunFault.Start }
+{
     match Locked::new(alloc, program, workers) {
         Err(MachineFault::Workers) => Err(RunFault::Workers),
         Err(MachineFault::Memory(_)) => Err(RunFault::Memory),
@@ -45,18 +66,17 @@ fn play_from(
     workers: u8,
     seed: u64,
     limit: u32,
-) -> Result<Run, RunFault>
+) -> Result<Locked, RunFault>
     requires crew { workers_of locked.machine ≡ workers }
     requires opens { Opens locked.machine }
     requires none { locked.history ≡ [] }
-    ensures ok { IfOk result (λ r. IsRun locked.machine.program workers limit r) }
-    ensures drawn { IfOk result (λ r. map choice_of r.log.choices ≡ drawn (label locked.machine.program) workers seed limit) }
+    ensures program { IfOk result (λ l. l.machine.program ≡ locked.machine.program) }
+    ensures crew { IfOk result (λ l. workers_of l.machine ≡ workers) }
+    ensures drawn { IfOk result (λ l. map choice_of l.history ≡ drawn (label locked.machine.program) workers seed limit) }
+    ensures stops { IfOk result (λ l. Stops limit l.machine) }
     ensures err { IfErr result (λ e. e ≡ RunFault.Memory) }
 {
-    match play_to_end(locked, Draws::new(alloc, workers, seed), limit) {
-        Ok(locked) => run_of(alloc, locked, workers, limit),
-        Err(fault) => Err(fault),
-    }
+    play_to_end(locked, Draws::new(alloc, workers, seed), limit)
 }
 
 // All choices of the schedule are made.
