@@ -133,8 +133,9 @@ class Lane:
 
     running, is_over = set(), False
 
-    def __init__(self, crates, folder):
-        self.crates, self.folder, self.has = crates, folder, set()
+    def __init__(self, crates, folder, proved=None):
+        """The libraries that the lane is given are those of the repository, or of a copy in which they were proved."""
+        self.crates, self.folder, self.proved, self.has = crates, folder, proved or crates.top, set()
         os.makedirs(f"{folder}/crates")
         for name in crates.uses:
             self.refresh(name)
@@ -157,7 +158,7 @@ class Lane:
         for name in names:
             if name not in self.has:
                 self.refresh(name)
-                own, theirs = f"{self.folder}/crates/{name}/out/rlib", f"{self.crates.top}/crates/{name}/out/rlib"
+                own, theirs = f"{self.folder}/crates/{name}/out/rlib", f"{self.proved}/crates/{name}/out/rlib"
                 shutil.rmtree(own, ignore_errors=True)
                 shutil.copytree(theirs, own, copy_function=link_or_copy)
                 self.has.add(name)

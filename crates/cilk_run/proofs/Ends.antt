@@ -7,7 +7,7 @@ use Rattle.cilk_run.specs.labelled.Bodies.{label}
 use Rattle.cilk_run.specs.locked.Histories.{IsLedBy}
 use Rattle.cilk_run.specs.machine.Situation.{Situation, workers_of}
 use Rattle.cilk_run.specs.machine.Stands.{StandsAt}
-use Rattle.cilk_run.specs.model.End.{end_now}
+use Rattle.cilk_run.specs.model.End.{End, end_now}
 use Rattle.cilk_run.specs.model.Run.{Position, Standing, after}
 use Rattle.cilk_run.specs.syntax.Tree.{Program}
 use Rattle.cilk_run.specs.Drawn.{drawn}
@@ -16,7 +16,13 @@ use Rattle.cilk_run.specs.Tallying.{outcome_by}
 use Rattle.cilk_run.specs.declared.outcome.Outcome as code
 use Rattle.cilk_run.proofs.Ran.{stands}
 
-outcome-is : (p : Program) (n limit seed : ℕ) (m : Situation) (made : List choice.Choice) (o : code.Outcome) → m.program ≡ p → workers_of m ≡ n
+pub words-ok : {A E : Type 0} (bytes : A → List ℕ) (m : Situation) (end : End) (result : Result A E) → IfOk result (λ w. bytes w ≡ end_words end)
+    → ((at : Standing) → StandsAt m at → end ≡ end_now (label m.program) at)
+    → IfOk result (λ w. (at : Standing) → StandsAt m at → bytes w ≡ end_words (end_now (label m.program) at))
+words-ok bytes m end (Ok w) is told = λ at there. is ∙ ap end_words (told at there)
+words-ok bytes m end (Err e) is told = tt
+
+pub outcome-is : (p : Program) (n limit seed : ℕ) (m : Situation) (made : List choice.Choice) (o : code.Outcome) → m.program ≡ p → workers_of m ≡ n
     → IsLedBy m made → map choice_of made ≡ drawn (label p) n seed limit → ((at : Standing) → StandsAt m at → o.printed.items ≡ at.state.output)
     → ((at : Standing) → StandsAt m at → string_bytes o.ended ≡ end_words (end_now (label m.program) at))
     → outcome_by o ≡ outcome_of (label p) n limit seed
@@ -26,11 +32,3 @@ outcome-is p n limit seed m made o program crew led are printed ended =
     let behind : after (label p) n (drawn (label p) n seed limit) ≡ Some at = (λ i. after (label (sym program i)) (sym crew i) (sym are i)) ∙ led.led.led in
     let words = ended led.at there ∙ ap (λ (q : Program). end_words (end_now (label q) led.at)) program in
     (λ i. record { printed = printed led.at there i; ended = words i }) ∙ sym (ap (outcome_at (label p)) behind)
-
-pub outcome-ok : {E : Type 0} (p : Program) (n limit seed : ℕ) (m : Situation) (made : List choice.Choice) (result : Result code.Outcome E) → m.program ≡ p
-    → workers_of m ≡ n → IsLedBy m made → map choice_of made ≡ drawn (label p) n seed limit
-    → IfOk result (λ o. (at : Standing) → StandsAt m at → o.printed.items ≡ at.state.output)
-    → IfOk result (λ o. (at : Standing) → StandsAt m at → string_bytes o.ended ≡ end_words (end_now (label m.program) at))
-    → IfOk result (λ o. outcome_by o ≡ outcome_of (label p) n limit seed)
-outcome-ok p n limit seed m made (Ok o) program crew led are printed ended = outcome-is p n limit seed m made o program crew led are printed ended
-outcome-ok p n limit seed m made (Err e) program crew led are printed ended = tt

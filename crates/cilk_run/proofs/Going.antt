@@ -6,9 +6,6 @@ use Rattle.cilk_run.specs.locked.Histories.{Locked}
 use Rattle.cilk_run.specs.Runs.{Stops}
 use Rattle.std.specs.Prelude.{Result, Ok, Err, IfOk}
 use Rattle.cilk_run.specs.choices.Words.{choice_of}
-use Rattle.cilk_run.specs.choices.declared.choice.Choice as code
-use Rattle.cilk_run.specs.declared.run_result.Run.{Run}
-use Rattle.cilk_run.specs.model.Choice as model_choice
 use Rattle.cilk_run.specs.labelled.Bodies.{label}
 use Rattle.cilk_run.specs.labelled.Labelled.{Labelled}
 use Rattle.cilk_run.specs.machine.Situation.{workers_of}
@@ -127,7 +124,14 @@ full-stops p n seed limit l d f =
     record { within = omega (arith, made); whole = λ at s ends. made }
 
 -- a run has the choices of its history
-pub run-drawn : {E : Type 0} (r : Result Run E) (history : List code.Choice) (named : List model_choice.Choice) → IfOk r (λ x. x.log.choices ≡ history)
-    → map choice_of history ≡ named → IfOk r (λ x. map choice_of x.log.choices ≡ named)
-run-drawn (Ok x) history named same is = ap (map choice_of) same ∙ is
-run-drawn (Err e) history named same is = tt
+-- what is so of all schedules that the choices may follow is so of the one that they do
+pub followed-drawn : {E : Type 0} (p : Program) (n seed limit : ℕ) (l : Locked) (d : Draws) (result : Result Locked E) → Follows p n seed limit 0 l d
+    → IfOk result (λ m. (q : Program) (k s : ℕ) → Follows q k s limit 0 l d → map choice_of m.history ≡ drawn (label q) k s limit)
+    → IfOk result (λ m. map choice_of m.history ≡ drawn (label p) n seed limit)
+followed-drawn p n seed limit l d (Ok m) follows all = all p n seed follows
+followed-drawn p n seed limit l d (Err e) follows all = tt
+
+pub followed-stops : {E : Type 0} (p : Program) (n seed limit : ℕ) (l : Locked) (d : Draws) (result : Result Locked E) → Follows p n seed limit 0 l d
+    → IfOk result (λ m. (q : Program) (k s : ℕ) → Follows q k s limit 0 l d → Stops limit m.machine) → IfOk result (λ m. Stops limit m.machine)
+followed-stops p n seed limit l d (Ok m) follows all = all p n seed follows
+followed-stops p n seed limit l d (Err e) follows all = tt

@@ -1,6 +1,6 @@
 //! The outcome by which a tally counts the run of a seed: what it printed, and the words of its closing line.
 
-ghost use Rattle.std.specs.Prelude.{◌≡◌, ◌≢◌, ◌<◌, ◌⊎◌, Err, IfOk, IfErr, string_bytes};
+ghost use Rattle.std.specs.Prelude.{◌≡◌, ◌≢◌, ◌<◌, ◌⊎◌, Err, IfOk, string_bytes};
 ghost use Rattle.cilk_run.specs.choices.Words.{end_of};
 ghost use Rattle.cilk_run.specs.labelled.Bodies.{label};
 ghost use Rattle.cilk_run.specs.machine.Stands.{StandsAt};

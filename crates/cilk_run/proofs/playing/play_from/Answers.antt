@@ -1,18 +1,17 @@
 use Rattle.std.proofs.Common.{refl}
-use Rattle.cilk_run.specs.labelled.Bodies.{label}
-use Rattle.cilk_run.specs.Drawn.{drawn}
-use Rattle.cilk_run.proofs.Going.{follows-first, run-drawn}
+use Rattle.cilk_run.proofs.Going.{follows-first, followed-drawn, followed-stops}
 use Rattle.cilk_run.proofs.playing.play_from.Goals as goal
 
-pub run_of-requires-clause-over : goal.run_of-requires-clause-over
-run_of-requires-clause-over c =
+pub returns-clause-drawn : goal.returns-clause-drawn
+returns-clause-drawn c =
     let p = c.args.locked.machine.program in
-    c.in-Ok.ensures.stops p c.args.workers c.args.seed
+    followed-drawn p c.args.workers c.args.seed c.args.limit c.args.locked c.new.result c.play_to_end.result
     (follows-first p c.args.workers c.args.seed c.args.limit c.args.locked c.new.result refl c.requires.crew c.requires.none c.requires.opens c.new.ensures)
+    c.play_to_end.ensures.whole
 
-pub returns-in-Ok-clause-drawn : goal.returns-in-Ok-clause-drawn
-returns-in-Ok-clause-drawn c =
+pub returns-clause-stops : goal.returns-clause-stops
+returns-clause-stops c =
     let p = c.args.locked.machine.program in
-    run-drawn c.run_of.result c.in-Ok.locked.history (drawn (label p) c.args.workers c.args.seed c.args.limit) c.run_of.ensures.choices
-    (c.in-Ok.ensures.whole p c.args.workers c.args.seed
-    (follows-first p c.args.workers c.args.seed c.args.limit c.args.locked c.new.result refl c.requires.crew c.requires.none c.requires.opens c.new.ensures))
+    followed-stops p c.args.workers c.args.seed c.args.limit c.args.locked c.new.result c.play_to_end.result
+    (follows-first p c.args.workers c.args.seed c.args.limit c.args.locked c.new.result refl c.requires.crew c.requires.none c.requires.opens c.new.ensures)
+    c.play_to_end.ensures.stops
