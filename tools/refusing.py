@@ -60,7 +60,9 @@ static int is_taken, spoils = 1, is_in_child;
 static void turn(void) {
     while (is_threaded && __atomic_exchange_n(&is_taken, 1, 2)) {}
 }
-static void end_turn(void) { __atomic_store_n(&is_taken, 0, 3); }
+static void end_turn(void) {
+    if (is_threaded) __atomic_store_n(&is_taken, 0, 3);
+}
 
 static void *room(size n) { return (void *)syscall(MMAP, 0L, n, 3L, 0x4022L, -1L, 0L); }
 
@@ -108,11 +110,11 @@ static void *take(int class) {
 }
 
 static void give(char *of) {
-    size at = (of - arena) / 16, bit = 1UL << at % 64;
-    int class = class_of[(of - arena) / SLAB];
+    size at = (of - arena) / 16, bit = 1UL << at % 64, *word = &is_out[at / 64];
     turn();
-    if ((size)of % 16 || !(is_out[at / 64] & bit)) syscall(KILL, syscall(GETPID), 6L);
-    is_out[at / 64] &= ~bit;
+    if ((size)of % 16 || !(*word & bit)) syscall(KILL, syscall(GETPID), 6L);
+    *word &= ~bit;
+    int class = spoils || !is_in_child ? class_of[(of - arena) / SLAB] : 0;
     if (spoils) memset(of, 0xdb, size_of(class));
     if (!is_in_child) {
         if (!back[class]) back[class] = room(ARENA / size_of(class) * 4);
@@ -307,7 +309,7 @@ def library(room):
     source, made = f"{room}/refuser.c", f"{room}/refuser.so"
     with open(source, "w", encoding="utf-8") as it:
         it.write(f"enum {{ LARGE = {LARGE}, SPOILED = {SPOILED} }};{TEXT}")
-    flags = ["-shared", "-fPIC", "-O1", "-nostdlib", "-fno-builtin", "-w", source, "-o", made]
+    flags = ["-shared", "-fPIC", "-O2", "-nostdlib", "-fno-builtin", "-w", source, "-o", made]
     for compiler in ([kit, "-fuse-ld=lld"] if os.path.exists(kit) else None, ["cc"]):
         if compiler and not subprocess.run([*compiler, *flags], stdin=subprocess.DEVNULL, capture_output=True, check=False).returncode:
             return made
