@@ -9,8 +9,8 @@ one, and once it has begun a thread no more children begin. The calls are those 
 part REFUSED_PART of them; a child numbered 0 tells that there was a call behind these.
 
 What a child writes into the system copies first, so such a program has its memory from the library, which keeps what it knows of a piece apart from it: to give
-back a million pieces is to write few pages. One that is given back twice, or that was none, ends the program by a signal. Up to LARGE calls, and behind that in
-one child of SPOILED, a piece is written over when it is given back. A child uses no piece again.
+back a million pieces is to write few pages. One that is given back twice, or that was none, ends the program by a signal. A piece is
+written over when it is given back: behind LARGE calls in one child of REFUSED_SPOILED.
 """
 import dataclasses
 import os
@@ -18,8 +18,8 @@ import re
 import shutil
 import subprocess
 
-# Behind so many growths what is given back is written over in one child of SPOILED: of a program of 100 MB the system would copy all of it first.
-LARGE, SPOILED = 10_000, 61
+# Behind so many growths a sweep may have what is given back written over in few children: of a program of 100 MB the system copies all of it first.
+LARGE = 10_000
 TEXT = r"""
 typedef unsigned long size;
 typedef struct { char *base; size length; } part;
@@ -55,7 +55,7 @@ static size *is_out;
 /* Where the pieces begin that were given back, in 16 bytes, by their class. */
 static unsigned *back[CLASSES];
 static size count_back[CLASSES], slabs;
-static int is_taken, spoils = 1, is_in_child;
+static int is_taken, spoils = 1, spoiled = 1;
 
 static void turn(void) {
     while (is_threaded && __atomic_exchange_n(&is_taken, 1, 2)) {}
@@ -114,12 +114,10 @@ static void give(char *of) {
     turn();
     if ((size)of % 16 || !(*word & bit)) syscall(KILL, syscall(GETPID), 6L);
     *word &= ~bit;
-    int class = spoils || !is_in_child ? class_of[(of - arena) / SLAB] : 0;
+    int class = class_of[(of - arena) / SLAB];
     if (spoils) memset(of, 0xdb, size_of(class));
-    if (!is_in_child) {
-        if (!back[class]) back[class] = room(ARENA / size_of(class) * 4);
-        back[class][count_back[class]++] = at;
-    }
+    if (!back[class]) back[class] = room(ARENA / size_of(class) * 4);
+    back[class][count_back[class]++] = at;
     end_turn();
 }
 
@@ -135,6 +133,7 @@ __attribute__((constructor)) static void begin(void) {
     to = atoi(getenv("REFUSED_TO"));
     parts = atoi(getenv("REFUSED_PARTS"));
     part_of_them = atoi(getenv("REFUSED_PART"));
+    spoiled = atoi(getenv("REFUSED_SPOILED"));
     begin_memory();
     each = far(syscall(OPEN, where, 02101, 0600));
     for (int s = 1; s <= 2; s++) of_child[s] = far(syscall(MEMFD, "child", 0L));
@@ -177,8 +176,7 @@ static int is_child(void) {
     if (child < 0) syscall(EXIT, 99L);
     if (!child) {
         kind = 0;
-        is_in_child = 1;
-        spoils = this <= LARGE || this % SPOILED == 0;
+        spoils = this <= LARGE || this % spoiled == 0;
         for (int s = 1; s <= 2; s++) syscall(DUP2, (long)of_child[s], (long)s);
         part_files();
         syscall(ALARM, 120L);
@@ -308,7 +306,7 @@ def library(room):
     kit = os.path.join(os.path.dirname(os.path.dirname(os.path.realpath(rt))), "toolchain/bin/clang") if rt else ""
     source, made = f"{room}/refuser.c", f"{room}/refuser.so"
     with open(source, "w", encoding="utf-8") as it:
-        it.write(f"enum {{ LARGE = {LARGE}, SPOILED = {SPOILED} }};{TEXT}")
+        it.write(f"enum {{ LARGE = {LARGE} }};{TEXT}")
     flags = ["-shared", "-fPIC", "-O2", "-nostdlib", "-fno-builtin", "-w", source, "-o", made]
     for compiler in ([kit, "-fuse-ld=lld"] if os.path.exists(kit) else None, ["cc"]):
         if compiler and not subprocess.run([*compiler, *flags], stdin=subprocess.DEVNULL, capture_output=True, check=False).returncode:
